@@ -1,5 +1,5 @@
 -- A question that is put among others with its answer.
-use Rattle.std.proofs.Common.{◌≡◌, ℕ, ◌<◌, ◌≤◌, Bool, true, false, List, [], ◌∷◌, ◌++◌, inl, inr, ⊎_elim, Some, length, sym, ap, subst, ◌∙◌, length-append, arith}
+use Rattle.std.proofs.Common.{◌≡◌, ℕ, ◌<◌, ◌≤◌, Bool, true, List, [], ◌∷◌, ◌++◌, ⊎_elim, Some, length, sym, ap, subst, ◌∙◌, length-append, arith}
 use Rattle.std.specs.Prelude.{slice_get}
 use Rattle.std.specs.Global.{Vec}
 use Rattle.std.proofs.lemmas.List.{length-map}
@@ -12,13 +12,8 @@ use Rattle.kex_machine.specs.Nodes.{Graph}
 use Rattle.kex_determine.specs.Numbering.{texts, IsAdded}
 use Rattle.kex_determine.proofs.MachineTables.{among_get}
 use Rattle.kex_cover.specs.Keeping.{AreAnswered, IsAnswered}
-use Rattle.kex_cover.specs.Searches.{IsKeyAdded}
 
--- the keys of a set, as texts
-pub added_question : (ts : List (List ℕ)) (x : List ℕ) (new : Bool) (us : List (List ℕ)) → IsKeyAdded ts x new us → IsAdded ts x us
-added_question ts x false us h = inl h
-added_question ts x true us h = inr h
-
+-- the list that a number was found for
 pub stored_question : (eq : Vec ℕ → Vec ℕ → Bool) → ((x y : Vec ℕ) → Decides (eq x y) (x.items ≡ y.items)) → (ks : List (Vec ℕ)) (i : ℕ) (k x : Vec ℕ) → slice_get ks i ≡ Some x → eq k x ≡ true → slice_get (texts ks) i ≡ Some k.items
 stored_question eq same ks i k x e h = slice_get-map (λ v. v.items) ks i ∙ ap (λ z. option_map (λ v. v.items) z) e ∙ ap (λ z. Some z) (sym ((same k x).0 h))
 

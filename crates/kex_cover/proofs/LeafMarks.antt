@@ -23,7 +23,7 @@ among_at (y ∷ xs) zero x e = inl (cc)
 among_at (y ∷ xs) (suc i) x e = inr (among_at xs i x e)
 
 -- in a list without repetition a member stands at one place
-one_place : {A : Type 0} (xs : List A) (i j : ℕ) (x : A) → AllDifferent xs → slice_get xs i ≡ Some x → slice_get xs j ≡ Some x → i ≡ j
+pub one_place : {A : Type 0} (xs : List A) (i j : ℕ) (x : A) → AllDifferent xs → slice_get xs i ≡ Some x → slice_get xs j ≡ Some x → i ≡ j
 one_place [] i j x d e f = cc
 one_place (y ∷ xs) zero zero x d e f = refl
 one_place (y ∷ xs) zero (suc j) x d e f = absurd (d.0 (among_at xs j y (f ∙ sym e)))

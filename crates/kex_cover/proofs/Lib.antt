@@ -1,6 +1,9 @@
 pub mod MarkedPlaces
 pub mod MetPairs
 pub mod Keys
+pub mod SetNumbers
+pub mod PairNumbers
+pub mod NextPairs
 pub mod PairSteps
 pub mod Starts
 pub mod LeftLeaves

@@ -10,17 +10,19 @@ use Rattle.kex_model.specs.Moves.{took, Allows}
 use Rattle.kex_model.specs.States.{AllDifferent}
 use Rattle.kex_model.proofs.Shapes.{among-append, among_left, among_right}
 use Rattle.kex_model.proofs.Tables.{get_more}
-use Rattle.kex_machine.specs.Nodes.{Graph, node_moves, HasClasses}
+use Rattle.kex_machine.specs.Nodes.{Graph, node_moves}
 use Rattle.kex_machine.specs.Advancing.{LeadAlike}
 use Rattle.kex_machine.proofs.Classes.{lead_alike, byte_read}
 use Rattle.kex_cover.specs.declared.pairs.SetPair.{SetPair}
 use Rattle.kex_cover.specs.declared.pairs.Pairs.{Pairs}
+use Rattle.kex_cover.specs.declared.met_sets.MetSets.{MetSets}
 use Rattle.kex_cover.specs.declared.fault.CoverFault.{CoverFault}
 use Rattle.kex_cover.specs.declared.fault.CoverFault.TheVariants.{TooManyPairs, Memory}
 use Rattle.kex_cover.specs.Pairs.{PlaceSets, IsPair, ArePlacesAfter}
-use Rattle.kex_paths.specs.Workspaces.{AreSamples}
-use Rattle.kex_cover.specs.Searches.{IsDoneFor, ArePlaced, IsPairEntered, ArePairsStored, ArePairsKept, RefusesPairs, IsNextPair, GrowsPairs, HasMoreFrom, IsPairFollowedTo, IsPairFollowed, all_pair_sets, pair_sets}
+use Rattle.kex_cover.specs.Searches.{AreClassBytes, ArePairsKept, AreSetsMet, GrowsPairs, HasMoreFrom, IsDoneFor, IsEntered, IsNextPair, HasNumbers, IsPairFollowedTo, IsPairFollowed, RefusesPairs, all_pair_sets, met_sets, pair_sets, pairs_met}
+use Rattle.kex_cover.proofs.Keys.{different-append}
 use Rattle.kex_cover.proofs.MetPairs.{reached_after}
+use Rattle.kex_cover.proofs.PairNumbers.{among_numbers, among_sets, different_sets, entered_sets, numbered_on, pairs_on}
 
 pub err_as : {A E : Type 0} (P : E → Type 0) (r : Result A E) (x : E) → IsErrAnd r (λ y. y ≡ x) → P x → IfErr r P
 err_as P (Ok a) x h k = tt
@@ -47,8 +49,8 @@ pub refuses_more : {P Q : Type 0} (most : ℕ) (e : CoverFault) → (P → Q) �
 refuses_more most (TooManyPairs seen) f h = (h.0, f h.1)
 refuses_more most Memory f h = tt
 
-pub set_at : (ps : List SetPair) (at : ℕ) (p : SetPair) (u : PlaceSets) → slice_get ps at ≡ Some p → slice_get (all_pair_sets ps) at ≡ Some u → pair_sets p ≡ u
-set_at ps at p u e f = let g : Some (pair_sets p) ≡ Some u = sym (slice_get-map pair_sets ps at ∙ ap (λ z. option_map pair_sets z) e) ∙ f in cc
+set_at : (sets : List (List ℕ)) (ps : List SetPair) (at : ℕ) (p : SetPair) (u : PlaceSets) → slice_get ps at ≡ Some p → slice_get (all_pair_sets sets ps) at ≡ Some u → pair_sets sets p ≡ u
+set_at sets ps at p u e f = let g : Some (pair_sets sets p) ≡ Some u = sym (slice_get-map (pair_sets sets) ps at ∙ ap (λ z. option_map (pair_sets sets) z) e) ∙ f in cc
 
 pub get_among : {A : Type 0} (xs : List A) (i : ℕ) (x : A) → slice_get xs i ≡ Some x → IsAmong xs x
 get_among [] i x e = cc
@@ -58,9 +60,6 @@ get_among (y ∷ xs) (suc i) x e = inr (get_among xs i x e)
 pub among_get : {A : Type 0} (xs : List A) (x : A) → IsAmong xs x → (i : ℕ) × (i < length xs) × (slice_get xs i ≡ Some x)
 among_get [] x i = absurd i
 among_get (y ∷ xs) x i = ⊎_elim (λ e. (0, omega arith, ap (λ z. Some z) e)) (λ j. let r = among_get xs x j in (suc r.0, (let lt = r.1 in omega (arith, lt)), r.2)) i
-
-pub set_there : (ps : List SetPair) (at : ℕ) (p : SetPair) → slice_get ps at ≡ Some p → slice_get (all_pair_sets ps) at ≡ Some (pair_sets p)
-set_there ps at p e = slice_get-map pair_sets ps at ∙ ap (λ z. option_map pair_sets z) e
 
 pub begun_among : (us vs : List PlaceSets) (u : PlaceSets) → Begins vs us → IsAmong us u → IsAmong vs u
 begun_among us vs u b i = subst (λ z. IsAmong z u) (sym b.1) (among_left us b.0 u i)
@@ -100,25 +99,25 @@ module _ (g : Graph) where
   pub done_on : (us vs : List PlaceSets) (u : PlaceSets) (b : ℕ) → Begins vs us → IsDoneFor g us u b → IsDoneFor g vs u b
   done_on us vs u b begins d = (d.0, d.1, ⊎_elim (λ e. inl e) (λ s. inr (s.0, s.1, begun_among us vs (record { first = d.0; second = s.0 }) begins s.2)) d.2)
 
-  entered_begins : (us : List PlaceSets) (v : PlaceSets) (vs : List PlaceSets) → IsPairEntered us v vs → Begins vs us
+  entered_begins : (us : List PlaceSets) (v : PlaceSets) (vs : List PlaceSets) → IsEntered us v vs → Begins vs us
   entered_begins us v vs h = ⊎_elim (λ k. ([], k.1 ∙ sym (append-nil us))) (λ k. (v ∷ [], k.1)) h
 
-  pub entered_here : (us : List PlaceSets) (v : PlaceSets) (vs : List PlaceSets) → IsPairEntered us v vs → IsAmong vs v
+  pub entered_here : (us : List PlaceSets) (v : PlaceSets) (vs : List PlaceSets) → IsEntered us v vs → IsAmong vs v
   entered_here us v vs h = ⊎_elim (λ k. subst (λ z. IsAmong z v) (sym k.1) k.0) (λ k. subst (λ z. IsAmong z v) (sym k.1) (among_right us (v ∷ []) v (inl refl))) h
 
-  pub entered_each : (P : PlaceSets → Type 0) (us : List PlaceSets) (v : PlaceSets) (vs : List PlaceSets) → IsPairEntered us v vs → ((u : PlaceSets) → IsAmong us u → P u) → P v → (u : PlaceSets) → IsAmong vs u → P u
+  pub entered_each : (P : PlaceSets → Type 0) (us : List PlaceSets) (v : PlaceSets) (vs : List PlaceSets) → IsEntered us v vs → ((u : PlaceSets) → IsAmong us u → P u) → P v → (u : PlaceSets) → IsAmong vs u → P u
   entered_each P us v vs h each here u i = ⊎_elim (λ k. each u (subst (λ z. IsAmong z u) k.1 i)) (λ k. ⊎_elim (λ j. each u j) (λ j. ⊎_elim (λ e. subst P e here) (λ a. absurd a) j) (among-append us (v ∷ []) u (subst (λ z. IsAmong z u) k.1 i))) h
 
   pub next_is_pair : (leaf : ℕ) (before : List ℕ) (u v : PlaceSets) (b : ℕ) → IsPair g leaf before u → IsNextPair g u b v → IsPair g leaf before v
   next_is_pair leaf before u v b (x, f, s, some) n = (x ++ b ∷ [], reached_after g (leaf ∷ []) x u.first b v.first f n.first, reached_after g before x u.second b v.second s n.second, n.some)
 
-  pub entered_grows : (us : List PlaceSets) (u v : PlaceSets) (b : ℕ) (vs : List PlaceSets) → IsAmong us u → IsNextPair g u b v → IsPairEntered us v vs → GrowsPairs g us vs
+  pub entered_grows : (us : List PlaceSets) (u v : PlaceSets) (b : ℕ) (vs : List PlaceSets) → IsAmong us u → IsNextPair g u b v → IsEntered us v vs → GrowsPairs g us vs
   entered_grows us u v b vs i n h = record {
     begins = entered_begins us v vs h;
     real = λ leaf before r. entered_each (λ z. IsPair g leaf before z) us v vs h r (next_is_pair leaf before u v b (r u i) n);
   }
 
-  pub entered_done : (us : List PlaceSets) (u v : PlaceSets) (b : ℕ) (vs : List PlaceSets) → IsNextPair g u b v → IsPairEntered us v vs → IsDoneFor g vs u b
+  pub entered_done : (us : List PlaceSets) (u v : PlaceSets) (b : ℕ) (vs : List PlaceSets) → IsNextPair g u b v → IsEntered us v vs → IsDoneFor g vs u b
   entered_done us u v b vs n h = (v.first, n.first, inr (v.second, n.second, entered_here us v vs h))
 
   pub more_from : (us : List PlaceSets) (u v : PlaceSets) (b most : ℕ) → AllDifferent us → IsAmong us u → IsNextPair g u b v → (IsAmong us v → ⊥) → most ≤ length us → HasMoreFrom g most us
@@ -128,24 +127,21 @@ module _ (g : Graph) where
   pub more_grown : (us vs : List PlaceSets) (most : ℕ) → GrowsPairs g us vs → HasMoreFrom g most vs → HasMoreFrom g most us
   more_grown us vs most grows h leaf before r = h leaf before (grows.real leaf before r)
 
-  pub followed_none : (samples : List (Option ℕ)) (us vs : List PlaceSets) (at : ℕ) → IsPairFollowedTo 0 g samples us vs at
-  followed_none samples us vs at u k b lt = absurd (omega (arith, lt))
+  pub followed_none : (bytes : List ℕ) (us vs : List PlaceSets) (at : ℕ) → IsPairFollowedTo 0 g bytes us vs at
+  followed_none bytes us vs at u k b lt = absurd (omega (arith, lt))
 
-  pub followed_more : (n : ℕ) (samples : List (Option ℕ)) (us vs ws : List PlaceSets) (at : ℕ) (sample : Option ℕ) → GrowsPairs g us vs → GrowsPairs g vs ws → slice_get samples n ≡ Some sample → IsPairFollowedTo n g samples us vs at → ((u : PlaceSets) (b : ℕ) → slice_get vs at ≡ Some u → sample ≡ Some b → IsDoneFor g ws u b) → IsPairFollowedTo (n + 1) g samples us ws at
-  followed_more n samples us vs ws at sample grows more is h done u k b lt e f =
+  pub followed_more : (n : ℕ) (bytes : List ℕ) (us vs ws : List PlaceSets) (at : ℕ) → GrowsPairs g us vs → GrowsPairs g vs ws → IsPairFollowedTo n g bytes us vs at → ((u : PlaceSets) (b : ℕ) → slice_get vs at ≡ Some u → slice_get bytes n ≡ Some b → IsDoneFor g ws u b) → IsPairFollowedTo (n + 1) g bytes us ws at
+  followed_more n bytes us vs ws at grows more h done u k b lt e f =
       ⊎_elim
       (λ less. done_on vs ws u b more.begins (h u k b less e f))
-      (λ same. done u b (begun_get us vs at u grows.begins e) (some_same (sym is ∙ ap (λ z. slice_get samples z) (sym same) ∙ f)))
+      (λ same. done u b (begun_get us vs at u grows.begins e) (ap (λ z. slice_get bytes z) (sym same) ∙ f))
       (last k n lt)
     where
       last : (k n : ℕ) → k < n + 1 → (k < n) ⊎ (k ≡ n)
       last k n lt = grind arith
 
-      some_same : {A : Type 0} {x y : A} → Some x ≡ Some y → x ≡ y
-      some_same e = cc
-
-  pub followed_on : (samples : List (Option ℕ)) (vs ws : List PlaceSets) (at : ℕ) → GrowsPairs g vs ws → ((i : ℕ) → i < at → IsPairFollowed g samples vs vs i) → at < length vs → IsPairFollowed g samples vs ws at → (i : ℕ) → i < at + 1 → IsPairFollowed g samples ws ws i
-  followed_on samples vs ws at grows h here new i lt u k b e f =
+  pub followed_on : (bytes : List ℕ) (vs ws : List PlaceSets) (at : ℕ) → GrowsPairs g vs ws → ((i : ℕ) → i < at → IsPairFollowed g bytes vs vs i) → at < length vs → IsPairFollowed g bytes vs ws at → (i : ℕ) → i < at + 1 → IsPairFollowed g bytes ws ws i
+  followed_on bytes vs ws at grows h here new i lt u k b e f =
       ⊎_elim
       (λ less. done_on vs ws u b grows.begins (h i less u k b (back i (omega (arith, less, here)) e) f))
       (λ same. new u k b (ap (λ z. slice_get vs z) (sym same) ∙ back i (omega (arith, same, here)) e) f)
@@ -174,51 +170,82 @@ module _ (g : Graph) where
   none_after from b none = record { falls = tt; real = λ q i. absurd i; all = λ q (p, i, (t, a, w)) waits. absurd (none p t a) }
 
   -- where the samples are followed, all bytes are
-  pub all_bytes : (classes : List ℕ) (samples : List (Option ℕ)) (us : List PlaceSets) → HasClasses g.nodes classes → AreSamples classes samples → ((u : PlaceSets) (k b : ℕ) → IsAmong us u → slice_get samples k ≡ Some (Some b) → IsDoneFor g us u b) → (u : PlaceSets) (b : ℕ) → IsAmong us u → IsDoneFor g us u b
-  all_bytes classes samples us has are done u b i = ⊎_elim byte beyond (within b)
+  pub all_bytes : (bytes : List ℕ) (us : List PlaceSets) → AreClassBytes g bytes → ((u : PlaceSets) (k b : ℕ) → IsAmong us u → slice_get bytes k ≡ Some b → IsDoneFor g us u b) → (u : PlaceSets) (b : ℕ) → IsAmong us u → IsDoneFor g us u b
+  all_bytes bytes us of done u b i = ⊎_elim byte beyond (within b)
     where
       within : (b : ℕ) → (b < 256) ⊎ (256 ≤ b)
       within b = grind arith
 
       beyond : 256 ≤ b → IsDoneFor g us u b
-      beyond le = ([], none_after u.first b (λ p t a. let lt = byte_read g.nodes classes has p b t a in omega (arith, lt, le)), inl refl)
+      beyond le = ([], none_after u.first b (λ p t a. let lt = byte_read g.nodes of.classes of.has p b t a in omega (arith, lt, le)), inl refl)
 
-      by : (o : Option (Option ℕ)) → slice_get samples (class_at classes b) ≡ o → b < 256 → IsDoneFor g us u b
-      by None e lt = let low = class_low classes has.refined.numbered 256 b lt lt in absurd (get_in samples (class_at classes b) (let long = are.long in omega (arith, low, lt, long)) e)
-      by (Some None) e lt = absurd (are.all b lt e)
+      by : (o : Option (Option ℕ)) → slice_get of.samples (class_at of.classes b) ≡ o → b < 256 → IsDoneFor g us u b
+      by None e lt = let low = class_low of.classes of.has.refined.numbered 256 b lt lt in absurd (get_in of.samples (class_at of.classes b) (let long = of.are.long in omega (arith, low, lt, long)) e)
+      by (Some None) e lt = absurd (of.are.all b lt e)
       by (Some (Some c)) e lt =
-          let r = are.right (class_at classes b) c e in
-          let alike = lead_alike g.nodes classes has c b r.0 lt r.1 in
-          let d = done u (class_at classes b) c i e in
+          let r = of.are.right (class_at of.classes b) c e in
+          let alike = lead_alike g.nodes of.classes of.has c b r.0 lt r.1 in
+          let there = among_get bytes c (of.listed (class_at of.classes b) c e) in
+          let d = done u there.0 c i there.2 in
           (d.0, alike_after c b u.first d.0 alike d.1, ⊎_elim (λ q. inl q) (λ s. inr (s.0, alike_after c b u.second s.0 alike s.1, s.2)) d.2)
 
       byte : b < 256 → IsDoneFor g us u b
-      byte lt = by (slice_get samples (class_at classes b)) refl lt
+      byte lt = by (slice_get of.samples (class_at of.classes b)) refl lt
+
+-- more sets, and the same pairs
+module _ (g : Graph) (s t : MetSets) (p : Pairs) (kept : ArePairsKept g s p) (met : AreSetsMet g t) (begins : Begins (met_sets t) (met_sets s)) where
+  pub pairs_same : pairs_met t p ≡ pairs_met s p
+  pairs_same = pairs_on (met_sets s) (met_sets t) begins p.met.keys kept.numbered
+
+  pub kept_same : ArePairsKept g t p
+  kept_same = record { sets = met; within = kept.within; different = kept.different; numbered = λ q i. numbered_on (met_sets s) (met_sets t) begins q (kept.numbered q i) }
+
+  pub grows_same : GrowsPairs g (pairs_met s p) (pairs_met t p)
+  grows_same = subst (GrowsPairs g (pairs_met s p)) (sym pairs_same) (grows_not g (pairs_met s p))
 
 -- a pair that is put among the others
-module _ (g : Graph) (old new : Pairs) (at b : ℕ) (p next : SetPair) (kept : ArePairsKept g old) (here : slice_get old.pairs.items at ≡ Some p) (n : IsNextPair g (pair_sets p) b (pair_sets next)) where
-  among_old : IsAmong (all_pair_sets old.pairs.items) (pair_sets p)
-  among_old = get_among (all_pair_sets old.pairs.items) at (pair_sets p) (set_there old.pairs.items at p here)
+module _ (g : Graph) (s t : MetSets) (p p' : Pairs) (at b : ℕ) (q next : SetPair) (kept : ArePairsKept g s p) (met : AreSetsMet g t) (begins : Begins (met_sets t) (met_sets s)) (here : slice_get p.met.keys at ≡ Some q) (numbered : HasNumbers (met_sets t) next) (n : IsNextPair g (pair_sets (met_sets s) q) b (pair_sets (met_sets t) next)) where
+  among_old : IsAmong (pairs_met s p) (pair_sets (met_sets s) q)
+  among_old = among_sets (met_sets s) kept.sets.different p.met.keys q (get_among p.met.keys at q here)
 
-  pub kept_now : IsPairEntered (all_pair_sets old.pairs.items) (pair_sets next) (all_pair_sets new.pairs.items) → ArePairsStored new.keys.keys new.pairs.items → length new.pairs.items ≤ old.most → new.most ≡ old.most → ArePairsKept g new
-  kept_now h stored within same = record { within = subst (λ z. length new.pairs.items ≤ z) (sym same) within; stored = stored; placed = entered_each g (λ z. ArePlaced g z) (all_pair_sets old.pairs.items) (pair_sets next) (all_pair_sets new.pairs.items) h kept.placed n.placed }
+  was : ArePairsKept g t p
+  was = kept_same g s t p kept met begins
 
-  pub grows_now : IsPairEntered (all_pair_sets old.pairs.items) (pair_sets next) (all_pair_sets new.pairs.items) → GrowsPairs g (all_pair_sets old.pairs.items) (all_pair_sets new.pairs.items)
-  grows_now h = entered_grows g (all_pair_sets old.pairs.items) (pair_sets p) (pair_sets next) b (all_pair_sets new.pairs.items) among_old n h
+  entered : IsEntered p.met.keys next p'.met.keys → IsEntered (pairs_met s p) (pair_sets (met_sets t) next) (pairs_met t p')
+  entered h = subst (λ z. IsEntered z (pair_sets (met_sets t) next) (pairs_met t p')) (pairs_same g s t p kept met begins) (entered_sets (met_sets t) met.different p.met.keys p'.met.keys next was.numbered numbered h)
 
-  pub done_now : IsPairEntered (all_pair_sets old.pairs.items) (pair_sets next) (all_pair_sets new.pairs.items) → (u : PlaceSets) (b' : ℕ) → slice_get (all_pair_sets old.pairs.items) at ≡ Some u → b ≡ b' → IsDoneFor g (all_pair_sets new.pairs.items) u b'
-  done_now h u b' e f = subst (λ z. IsDoneFor g (all_pair_sets new.pairs.items) u z) f (subst (λ z. IsDoneFor g (all_pair_sets new.pairs.items) z b) (set_at old.pairs.items at p u here e) (entered_done g (all_pair_sets old.pairs.items) (pair_sets p) (pair_sets next) b (all_pair_sets new.pairs.items) n h))
+  pub kept_now : IsEntered p.met.keys next p'.met.keys → length p'.met.keys ≤ p.most → p'.most ≡ p.most → ArePairsKept g t p'
+  kept_now h within same = record {
+    sets = met;
+    within = subst (λ z. length p'.met.keys ≤ z) (sym same) within;
+    different = ⊎_elim (λ r. subst AllDifferent (sym r.1) kept.different) (λ r. subst AllDifferent (sym r.1) (different-append p.met.keys next kept.different r.0)) h;
+    numbered = λ r i. ⊎_elim
+        (λ k. was.numbered r (subst (λ z. IsAmong z r) k.1 i))
+        (λ k. ⊎_elim (λ j. was.numbered r j) (λ j. ⊎_elim (λ e. subst (HasNumbers (met_sets t)) e numbered) (λ a. absurd a) j) (among-append p.met.keys (next ∷ []) r (subst (λ z. IsAmong z r) k.1 i)))
+        h;
+  }
 
-  pub more_now : (IsAmong (all_pair_sets old.pairs.items) (pair_sets next) → ⊥) × (old.most ≤ length old.pairs.items) → HasMoreFrom g old.most (all_pair_sets old.pairs.items)
-  more_now (none, le) = more_from g (all_pair_sets old.pairs.items) (pair_sets p) (pair_sets next) b old.most kept.stored.different among_old n none (let same = length-map old.pairs.items pair_sets in omega (arith, le, same))
+  pub grows_now : IsEntered p.met.keys next p'.met.keys → GrowsPairs g (pairs_met s p) (pairs_met t p')
+  grows_now h = entered_grows g (pairs_met s p) (pair_sets (met_sets s) q) (pair_sets (met_sets t) next) b (pairs_met t p') among_old n (entered h)
 
-pub some_same : {A : Type 0} {x y : A} {o : Option A} → o ≡ Some x → o ≡ Some y → x ≡ y
-some_same e f = let q = sym e ∙ f in cc
+  pub done_now : IsEntered p.met.keys next p'.met.keys → (u : PlaceSets) → slice_get (pairs_met s p) at ≡ Some u → IsDoneFor g (pairs_met t p') u b
+  done_now h u e = subst (λ z. IsDoneFor g (pairs_met t p') z b) (set_at (met_sets s) p.met.keys at q u here e) (entered_done g (pairs_met s p) (pair_sets (met_sets s) q) (pair_sets (met_sets t) next) b (pairs_met t p') n (entered h))
 
-pub at_least : (g : Graph) (ps qs : List SetPair) (at : ℕ) → GrowsPairs g (all_pair_sets ps) (all_pair_sets qs) → at < length ps → at < length qs
-at_least g ps qs at h lt =
-    let p = length-map ps pair_sets in
-    let q = length-map qs pair_sets in
+  pub more_now : (IsAmong p.met.keys next → ⊥) × (p.most ≤ length p.met.keys) → HasMoreFrom g p.most (pairs_met s p)
+  more_now (none, le) = more_from g (pairs_met s p) (pair_sets (met_sets s) q) (pair_sets (met_sets t) next) b p.most
+      (different_sets (met_sets s) kept.sets.different p.met.keys kept.numbered kept.different)
+      among_old n
+      (λ i. none (among_numbers (met_sets t) met.different p.met.keys next was.numbered numbered (subst (λ z. IsAmong z (pair_sets (met_sets t) next)) (sym (pairs_same g s t p kept met begins)) i)))
+      (let same = length-map p.met.keys (pair_sets (met_sets s)) in omega (arith, le, same))
+
+-- nothing is reached from the first part of a pair
+pub done_empty : (g : Graph) (s : MetSets) (p : Pairs) (us : List PlaceSets) (at b : ℕ) (q : SetPair) → slice_get p.met.keys at ≡ Some q → ArePlacesAfter g (pair_sets (met_sets s) q).first b [] → (u : PlaceSets) → slice_get (pairs_met s p) at ≡ Some u → IsDoneFor g us u b
+done_empty g s p us at b q here none u e = subst (λ z. IsDoneFor g us z b) (set_at (met_sets s) p.met.keys at q u here e) ([], none, inl refl)
+
+pub at_least : (g : Graph) (s t : MetSets) (p q : Pairs) (at : ℕ) → GrowsPairs g (pairs_met s p) (pairs_met t q) → at < length p.met.keys → at < length q.met.keys
+at_least g s t p q at h lt =
+    let one = length-map p.met.keys (pair_sets (met_sets s)) in
+    let two = length-map q.met.keys (pair_sets (met_sets t)) in
     let long = ap length h.begins.1 in
-    let both = length-append (all_pair_sets ps) h.begins.0 in
-    omega (arith, lt, p, q, long, both)
+    let both = length-append (pairs_met s p) h.begins.0 in
+    omega (arith, lt, one, two, long, both)

@@ -18,7 +18,9 @@ use Rattle.kex_paths.specs.Nexts.{Outline, HasClass, IsNext, IsChange, IsOfShape
 use Rattle.kex_determine.specs.Determined.{IsDetermined}
 use Rattle.kex_determine.specs.Numbering.{texts}
 use Rattle.kex_determine.specs.Rows.{way_to}
+use Rattle.kex_cover.specs.declared.questions.Questions.{Questions}
 use Rattle.kex_cover.specs.Pairs.{HasMorePairs, HasPairs, IsCoveredBy, IsUncoveredBy}
+use Rattle.kex_cover.specs.Searches.{AreSetsMet}
 use Rattle.kex_cover.specs.Optimal.{AsksAtMost, AsksMore, BeginsBest, DoesBest, IsBestRow}
 use Rattle.kex_cover.specs.Optimal.{IsLeftState, LeftState, has_number, wholes}
 
@@ -39,6 +41,11 @@ pub record AreAnswered (g : Graph) (most : ℕ) (asked : List (Vec ℕ))
   pub each : (i leaf : ℕ) (before : List ℕ) (told : Bool)
       → slice_get (texts asked) i ≡ Some (leaf ∷ before) → slice_get answers i ≡ Some told
       → IsAnswered g most leaf before told
+
+-- what was asked of a machine, and what the searches share
+pub record AreQuestionsKept (g : Graph) (q : Questions) : Type 0 where
+  pub met : AreSetsMet g q.sets
+  pub answered : AreAnswered g q.pairs.most q.asked.keys q.answers.items
 
 -- ---- leaves
 

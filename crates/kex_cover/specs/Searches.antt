@@ -1,17 +1,19 @@
 -- What a search over pairs keeps.
-use Rattle.std.specs.Prelude.{◌≡◌, ℕ, ◌+◌, ◌/◌, ◌<◌, ◌≤◌, Bool, true, false, List, [], ◌∷◌, ◌++◌}
+use Rattle.std.specs.Prelude.{◌≡◌, ℕ, ◌+◌, ◌/◌, ◌<◌, ◌≤◌, true, List, [], ◌∷◌, ◌++◌}
 use Rattle.std.specs.Prelude.{◌⊎◌}
-use Rattle.std.specs.Prelude.{Option, Some, map, length, slice_get}
-use Rattle.std.specs.Global.{Vec}
+use Rattle.std.specs.Prelude.{Option, Some, MatchBool, map, length, slice_get, get_or}
 use Rattle.kex_code.specs.Codes.{Begins, IsAmong}
 use Rattle.kex_model.specs.Moves.{accept, took, Allows, Waits}
 use Rattle.kex_model.specs.States.{AllDifferent}
 use Rattle.kex_machine.specs.declared.MNode.{MNode}
-use Rattle.kex_machine.specs.Nodes.{Graph, node_moves}
+use Rattle.kex_machine.specs.Nodes.{Graph, HasClasses, node_moves}
 use Rattle.kex_frontier.specs.Rows.{has_mark, IsReachedQuietly}
+use Rattle.kex_paths.specs.Workspaces.{AreSamples}
 use Rattle.kex_determine.specs.Numbering.{texts}
 use Rattle.kex_cover.specs.declared.pairs.SetPair.{SetPair}
 use Rattle.kex_cover.specs.declared.pairs.Pairs.{Pairs}
+use Rattle.kex_cover.specs.declared.met_sets.MetSet.{MetSet}
+use Rattle.kex_cover.specs.declared.met_sets.MetSets.{MetSets}
 use Rattle.kex_cover.specs.declared.sets.MarkPair.{MarkPair}
 use Rattle.kex_cover.specs.declared.fault.CoverFault.{CoverFault}
 use Rattle.kex_cover.specs.declared.fault.CoverFault.TheVariants.{TooManyPairs, Memory}
@@ -54,35 +56,71 @@ pub record IsMarkedAfter (nodes : List MNode) (from : List ℕ) (b : ℕ) (row :
   pub real : (q : ℕ) → has_mark row q ≡ true → IsWayFrom nodes from b q
   pub all : (q : ℕ) → IsWayFrom nodes from b q → has_mark row q ≡ true
 
+-- a node at which a text ends is among the places
+abbrev pub HasEnd : List MNode → List ℕ → Type 0
+HasEnd nodes places = (e : ℕ) × IsAmong places e × (node_moves nodes e ≡ accept)
+
+-- ---- the sets that were met, by number
+
+abbrev pub met_sets : MetSets → List (List ℕ)
+met_sets s = texts s.sets.keys
+
+-- the set of this number is what a set leads to by a byte
+abbrev pub IsWayTo : Graph → List (List ℕ) → List ℕ → ℕ → ℕ → Type 0
+IsWayTo g sets from b to = (x : List ℕ) × (slice_get sets to ≡ Some x) × ArePlacesAfter g from b x
+
+-- of each class that has a byte one is among these
+pub record AreClassBytes (g : Graph) (bytes : List ℕ) : Type 0 where
+  pub classes : List ℕ
+  pub has : HasClasses g.nodes classes
+  pub samples : List (Option ℕ)
+  pub are : AreSamples classes samples
+  pub listed : (k b : ℕ) → slice_get samples k ≡ Some (Some b) → IsAmong bytes b
+
+-- of the first n samples those that there are are among these
+abbrev pub AreListedTo : ℕ → List (Option ℕ) → List ℕ → Type 0
+AreListedTo n samples bytes = (k b : ℕ) → k < n → slice_get samples k ≡ Some (Some b)
+    → IsAmong bytes b
+
+-- whether a set holds the end, and where it leads by a byte of each class, so far as that is known
+pub record IsMetSet (g : Graph) (sets : List (List ℕ)) (bytes : List ℕ) (x : List ℕ)
+    (set : MetSet) : Type 0 where
+  pub end : MatchBool set.end (HasEnd g.nodes x) (HasEnd g.nodes x → ⊥)
+  pub long : length set.ways.items ≡ length bytes
+  pub ways : (k b to : ℕ) → slice_get bytes k ≡ Some b
+      → slice_get set.ways.items k ≡ Some (Some to) → IsWayTo g sets x b to
+
+-- the sets are of numbers of nodes, each once, and what is known of each is so
+pub record AreSetsMet (g : Graph) (s : MetSets) : Type 0 where
+  pub rooms : HaveRoom (length g.nodes) s.rows
+  pub bytes : AreClassBytes g s.bytes.items
+  pub within : (x : List ℕ) → IsAmong (met_sets s) x → AreWithin (length g.nodes) x
+  pub different : AllDifferent (met_sets s)
+  pub count : length s.met.items ≡ length (met_sets s)
+  pub each : (i : ℕ) (x : List ℕ) (set : MetSet) → slice_get (met_sets s) i ≡ Some x
+      → slice_get s.met.items i ≡ Some set
+      → IsMetSet g (met_sets s) s.bytes.items x set
+
 -- ---- the pairs that were met
 
-abbrev pub pair_sets : SetPair → PlaceSets
-pair_sets p = record { first = p.first.items; second = p.second.items }
+-- the sets of a pair of numbers
+abbrev pub pair_sets : List (List ℕ) → SetPair → PlaceSets
+pair_sets sets p = record { first = get_or sets p.first []; second = get_or sets p.second [] }
 
-abbrev pub all_pair_sets : List SetPair → List PlaceSets
-all_pair_sets ps = map pair_sets ps
+abbrev pub all_pair_sets : List (List ℕ) → List SetPair → List PlaceSets
+all_pair_sets sets ps = map (pair_sets sets) ps
 
-abbrev pub pair_key : PlaceSets → List ℕ
-pair_key u = u.first ++ 4294967295 ∷ u.second
+-- the pairs of a search
+abbrev pub pairs_met : MetSets → Pairs → List PlaceSets
+pairs_met s p = all_pair_sets (met_sets s) p.met.keys
 
--- no place is the number that stands between the parts of a key
-abbrev pub AreSmall : PlaceSets → Type 0
-AreSmall u = AreWithin 4294967295 u.first
+-- both numbers are those of sets
+abbrev pub HasNumbers : List (List ℕ) → SetPair → Type 0
+HasNumbers sets p = (p.first < length sets) × (p.second < length sets)
 
--- the text is there, or is put at the end
-abbrev pub IsKeyAdded : List (List ℕ) → List ℕ → Bool → List (List ℕ) → Type 0
-IsKeyAdded ts x false us = IsAmong ts x × (us ≡ ts)
-IsKeyAdded ts x true us = (¬ IsAmong ts x) × (us ≡ ts ++ x ∷ [])
-
--- the keys are those of the pairs, each once
-pub record ArePairsStored (keys : List (Vec ℕ)) (pairs : List SetPair) : Type 0 where
-  pub keyed : texts keys ≡ map pair_key (all_pair_sets pairs)
-  pub different : AllDifferent (all_pair_sets pairs)
-  pub small : (u : PlaceSets) → IsAmong (all_pair_sets pairs) u → AreSmall u
-
--- the pair is there, or is put at the end
-abbrev pub IsPairEntered : List PlaceSets → PlaceSets → List PlaceSets → Type 0
-IsPairEntered us u vs = (IsAmong us u × (vs ≡ us)) ⊎ ((¬ IsAmong us u) × (vs ≡ us ++ u ∷ []))
+-- it is there, or is put at the end
+abbrev pub IsEntered : {A : Type 0} → List A → A → List A → Type 0
+IsEntered us u vs = (IsAmong us u × (vs ≡ us)) ⊎ ((¬ IsAmong us u) × (vs ≡ us ++ u ∷ []))
 
 -- too many pairs are answered only where P holds, with one more than are allowed
 abbrev pub RefusesPairs : ℕ → Type 0 → CoverFault → Type 0
@@ -102,14 +140,6 @@ module _ (g : Graph) where
   abbrev pub ArePairs : ℕ → List ℕ → List PlaceSets → Type 0
   ArePairs p Q us = (u : PlaceSets) → IsAmong us u → IsPair g p Q u
 
--- the places of both sets are numbers of nodes
-abbrev pub ArePlaced : Graph → PlaceSets → Type 0
-ArePlaced g u = AreWithin (length g.nodes) u.first × AreWithin (length g.nodes) u.second
-
--- a node at which a text ends is among the places
-abbrev pub HasEnd : List MNode → List ℕ → Type 0
-HasEnd nodes places = (e : ℕ) × IsAmong places e × (node_moves nodes e ≡ accept)
-
 -- the first part of a pair holds the end, and the second doesn't
 abbrev pub Fails : List MNode → PlaceSets → Type 0
 Fails nodes u = HasEnd nodes u.first × (HasEnd nodes u.second → ⊥)
@@ -128,14 +158,13 @@ pub record IsNextPair (g : Graph) (u : PlaceSets) (b : ℕ) (v : PlaceSets) : Ty
   pub first : ArePlacesAfter g u.first b v.first
   pub second : ArePlacesAfter g u.second b v.second
   pub some : v.first ≡ [] → ⊥
-  pub placed : ArePlaced g v
-  pub small : AreSmall v
 
--- the pairs that were met: no more than there may be, each once, of numbers of nodes
-pub record ArePairsKept (g : Graph) (p : Pairs) : Type 0 where
-  pub within : length p.pairs.items ≤ p.most
-  pub stored : ArePairsStored p.keys.keys p.pairs.items
-  pub placed : (u : PlaceSets) → IsAmong (all_pair_sets p.pairs.items) u → ArePlaced g u
+-- the sets that were met, and the pairs: no more than there may be, each once, of numbers of sets
+pub record ArePairsKept (g : Graph) (s : MetSets) (p : Pairs) : Type 0 where
+  pub sets : AreSetsMet g s
+  pub within : length p.met.keys ≤ p.most
+  pub different : AllDifferent p.met.keys
+  pub numbered : (q : SetPair) → IsAmong p.met.keys q → HasNumbers (met_sets s) q
 
 -- more pairs were met; if the old were pairs of a place and others, so are the new
 pub record GrowsPairs (g : Graph) (us vs : List PlaceSets) : Type 0 where
@@ -146,12 +175,11 @@ abbrev pub HasMoreFrom : Graph → ℕ → List PlaceSets → Type 0
 HasMoreFrom g most us = (leaf : ℕ) (before : List ℕ) → ArePairs g leaf before us
     → HasMorePairs g leaf before most
 
--- what this pair leads to by the first n samples is among the pairs
-abbrev pub IsPairFollowedTo : ℕ → Graph → List (Option ℕ) → List PlaceSets → List PlaceSets → ℕ
-    → Type 0
-IsPairFollowedTo n g samples us vs at = (u : PlaceSets) (k b : ℕ) → k < n
-    → slice_get us at ≡ Some u → slice_get samples k ≡ Some (Some b) → IsDoneFor g vs u b
+-- what this pair leads to by the first n bytes is among the pairs
+abbrev pub IsPairFollowedTo : ℕ → Graph → List ℕ → List PlaceSets → List PlaceSets → ℕ → Type 0
+IsPairFollowedTo n g bytes us vs at = (u : PlaceSets) (k b : ℕ) → k < n → slice_get us at ≡ Some u
+    → slice_get bytes k ≡ Some b → IsDoneFor g vs u b
 
-abbrev pub IsPairFollowed : Graph → List (Option ℕ) → List PlaceSets → List PlaceSets → ℕ → Type 0
-IsPairFollowed g samples us vs at = (u : PlaceSets) (k b : ℕ) → slice_get us at ≡ Some u
-    → slice_get samples k ≡ Some (Some b) → IsDoneFor g vs u b
+abbrev pub IsPairFollowed : Graph → List ℕ → List PlaceSets → List PlaceSets → ℕ → Type 0
+IsPairFollowed g bytes us vs at = (u : PlaceSets) (k b : ℕ) → slice_get us at ≡ Some u
+    → slice_get bytes k ≡ Some b → IsDoneFor g vs u b

@@ -5,7 +5,7 @@ ghost use Rattle.std.specs.Prelude.{MatchBool, length, slice_get, get_or, false}
 ghost use Rattle.kex_model.specs.Labelled.{Shape};
 ghost use Rattle.kex_model.specs.States.{AllDifferent};
 ghost use Rattle.kex_determine.specs.Determined.{AreStateTrees};
-ghost use Rattle.kex_cover.specs.Keeping.{AreAnswered, AreLeftTrees, AreStates, AreTold};
+ghost use Rattle.kex_cover.specs.Keeping.{AreLeftTrees, AreQuestionsKept, AreStates, AreTold};
 ghost use Rattle.kex_cover.specs.Keeping.{AskedAt, AsksMoreAt, EachAsksUpTo, IsLeftTree};
 ghost use Rattle.kex_cover.specs.Keeping.{IsStateTree, OneAsksMore, ToldAt};
 ghost use Rattle.kex_cover.specs.Optimal.{AsksAtMost, AsksMore};
@@ -25,18 +25,16 @@ fn is_covered(
     at: usize,
     questions: &mut Questions,
 ) -> Result<bool, CoverFault>
-    requires few { questions.old.most < 4294967295 }
+    requires few { questions.old.pairs.most < 4294967295 }
     requires there { at < length leaves.now }
     requires waiting { AreWaiting machine.now leaves.now }
-    requires answered { AreAnswered machine.now questions.old.most questions.old.asked.keys
-        questions.old.answers.items }
+    requires kept { AreQuestionsKept machine.now questions.old }
     ensures told { IfOk result (λ yes. ToldAt machine.now leaves.now at yes) }
-    ensures count { OnOk result (AskedAt machine.now questions.old.most leaves.now at) }
-    ensures answered { OnOk result (AreAnswered machine.now questions.old.most
-        questions.new.asked.keys questions.new.answers.items) }
-    ensures most { OnOk result (questions.new.most ≡ questions.old.most) }
-    ensures refused { IfErr result (RefusesPairs questions.old.most
-        (AsksMoreAt machine.now questions.old.most leaves.now at)) }
+    ensures count { OnOk result (AskedAt machine.now questions.old.pairs.most leaves.now at) }
+    ensures kept { OnOk result (AreQuestionsKept machine.now questions.new) }
+    ensures most { OnOk result (questions.new.pairs.most ≡ questions.old.pairs.most) }
+    ensures refused { IfErr result (RefusesPairs questions.old.pairs.most
+        (AsksMoreAt machine.now questions.old.pairs.most leaves.now at)) }
 {
     // From each node the end is reached.
     let _nodes = machine.nodes();
@@ -53,20 +51,18 @@ fn mark_uncovered(
     questions: &mut Questions,
     marks: &mut Marks,
 ) -> Result<(), CoverFault>
-    requires few { questions.old.most < 4294967295 }
+    requires few { questions.old.pairs.most < 4294967295 }
     requires long { length marks.old ≡ length machine.now.nodes }
     requires waiting { AreWaiting machine.now leaves.now }
     requires different { AllDifferent leaves.now }
-    requires answered { AreAnswered machine.now questions.old.most questions.old.asked.keys
-        questions.old.answers.items }
+    requires kept { AreQuestionsKept machine.now questions.old }
     ensures told { OnOk result (AreTold machine.now leaves.now marks.new) }
-    ensures count { OnOk result (AsksAtMost machine.now questions.old.most leaves.now) }
-    ensures answered { OnOk result (AreAnswered machine.now questions.old.most
-        questions.new.asked.keys questions.new.answers.items) }
-    ensures most { OnOk result (questions.new.most ≡ questions.old.most) }
+    ensures count { OnOk result (AsksAtMost machine.now questions.old.pairs.most leaves.now) }
+    ensures kept { OnOk result (AreQuestionsKept machine.now questions.new) }
+    ensures most { OnOk result (questions.new.pairs.most ≡ questions.old.pairs.most) }
     ensures long { length marks.new ≡ length marks.old }
-    ensures refused { IfErr result (RefusesPairs questions.old.most
-        (AsksMore machine.now questions.old.most leaves.now)) }
+    ensures refused { IfErr result (RefusesPairs questions.old.pairs.most
+        (AsksMore machine.now questions.old.pairs.most leaves.now)) }
 {
     marks.clear();
     for at in 0..leaves.len() {
@@ -85,19 +81,17 @@ fn left_of<'m>(
     questions: &mut Questions,
     marks: &mut Marks,
 ) -> Result<PathTree<'m>, CoverFault>
-    requires few { questions.old.most < 4294967295 }
+    requires few { questions.old.pairs.most < 4294967295 }
     requires long { length marks.old ≡ length machine.now.nodes }
     requires state { IsStateTree machine.now tree.now }
-    requires answered { AreAnswered machine.now questions.old.most questions.old.asked.keys
-        questions.old.answers.items }
+    requires kept { AreQuestionsKept machine.now questions.old }
     ensures left { IfOk result (λ left. IsLeftTree machine.now tree.now left) }
-    ensures count { OnOk result (AsksAtMost machine.now questions.old.most tree.now.leaves) }
-    ensures answered { OnOk result (AreAnswered machine.now questions.old.most
-        questions.new.asked.keys questions.new.answers.items) }
-    ensures most { OnOk result (questions.new.most ≡ questions.old.most) }
+    ensures count { OnOk result (AsksAtMost machine.now questions.old.pairs.most tree.now.leaves) }
+    ensures kept { OnOk result (AreQuestionsKept machine.now questions.new) }
+    ensures most { OnOk result (questions.new.pairs.most ≡ questions.old.pairs.most) }
     ensures long { length marks.new ≡ length marks.old }
-    ensures refused { IfErr result (RefusesPairs questions.old.most
-        (AsksMore machine.now questions.old.most tree.now.leaves)) }
+    ensures refused { IfErr result (RefusesPairs questions.old.pairs.most
+        (AsksMore machine.now questions.old.pairs.most tree.now.leaves)) }
 {
     // Its leaves are waiting places, each once, and there is one.
     let _nodes = machine.nodes();
@@ -127,7 +121,7 @@ pub fn left_trees<'m>(
         → AreStateTrees machine.now shapes trees.now → OneAsksMore machine.now max_pairs shapes)) }
 {
     let mut marks = Marks::new(alloc, machine.nodes().len())?;
-    let mut questions = Questions::new(alloc, max_pairs);
+    let mut questions = Questions::new(alloc, machine, max_pairs)?;
     let mut lefts = Vec::with_capacity(alloc, trees.len())?;
     for tree in trees {
         let left = left_of(alloc, machine, tree, &mut questions, &mut marks)?;

@@ -2,13 +2,16 @@
 //! text that leads from it to the end leads there from one of those.
 //!
 //! Stands on machines, on rows of bits and on determinisation. The search goes over pairs of sets
-//! of waiting places: what a text leads to from the place, and what it leads to from the others. A
-//! table whose states leave covered leaves out passes on what is best. The contracts of `covered`
-//! and of `optimal` are the crate's.
+//! of waiting places: what a text leads to from the place, and what it leads to from the others.
+//! The sets have numbers, and where one leads by a class of bytes is worked out once. A table whose
+//! states leave covered leaves out passes on what is best. The contracts of `covered` and of
+//! `optimal` are the crate's.
 #![tactic(auto)]
 
 pub mod fault;
 mod kept;
+mod met_sets;
+mod numbers;
 mod pairs;
 mod questions;
 pub mod refusal;
@@ -27,14 +30,13 @@ ghost use Rattle.kex_cover.specs.Searches.{AreWaiting, RefusesPairs};
 
 use crate::fault::CoverFault;
 use crate::kept::left_trees;
+use crate::met_sets::MetSets;
 use crate::pairs::Pairs;
 use crate::refusal::CoverRefusal;
 use crate::rows::{RowTools, first_update, rows_of};
-use crate::search::{all_hold, first_pair, follow_all};
-use crate::sets::MarkPair;
+use crate::search::search;
 use kex_determine::determine_trees;
 use kex_machine::Trimmed;
-use kex_paths::workspace::samples_of;
 use kex_sst::table::Table;
 use std::alloc::Global;
 
@@ -42,7 +44,8 @@ use std::alloc::Global;
 /// before it. `TooManyPairs` exactly where the place and those have more pairs than `max_pairs`,
 /// also where fewer would tell.
 ///
-/// The cost is that of a step of two rows for each pair and each class of bytes.
+/// The cost is that of a step of a row for each set that is met and each class of bytes, and of a
+/// look-up for each pair and class.
 pub fn covered(
     alloc: Global,
     machine: &Trimmed,
@@ -60,13 +63,9 @@ pub fn covered(
     ensures refused { IfErr result
         (RefusesPairs max_pairs (HasMorePairs machine.now leaf before.now max_pairs)) }
 {
-    let samples = samples_of(machine.partition());
-    let mut rows = MarkPair::new(alloc, machine.nodes().len())?;
+    let mut sets = MetSets::new(alloc, machine)?;
     let mut pairs = Pairs::new(alloc, max_pairs);
-    let pair = first_pair(alloc, machine, leaf, before, &mut rows)?;
-    pairs.enter(pair)?;
-    follow_all(machine, &samples, &mut pairs, &mut rows)?;
-    Ok(all_hold(machine, &pairs.pairs))
+    search(machine, leaf, before, &mut sets, &mut pairs)
 }
 
 /// The table that passes on what is best: its states are those of `determine`'s table, in their
@@ -74,6 +73,10 @@ pub fn covered(
 ///
 /// `TooManyStates` exactly as `determine`; else `TooManyPairs` exactly where in some state the test
 /// of some leaf but the first, against all leaves before it, has more pairs than `max_pairs`.
+///
+/// A test is made once for the same leaf and the same leaves before it, and all share the sets that
+/// they meet. Besides the trees and the table the memory goes by `max_pairs`: sets and questions
+/// past that are forgotten.
 pub fn optimal(
     alloc: Global,
     machine: &Trimmed,

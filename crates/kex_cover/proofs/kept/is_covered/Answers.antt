@@ -1,10 +1,11 @@
-use Rattle.std.proofs.Common.{false, get_or, take, ⊎_elim, sym, subst}
+use Rattle.std.proofs.Common.{false, get_or, take, ⊎_elim, sym, subst, arith}
 use Rattle.std.specs.Prelude.{MatchBool}
 use Rattle.kex_code.specs.Codes.{IsAmong}
 use Rattle.kex_cover.specs.Keeping.{ToldAt}
 use Rattle.kex_cover.specs.Pairs.{IsCoveredBy, IsUncoveredBy}
-use Rattle.kex_cover.proofs.LeafMarks.{first_told, take_among, told_here}
+use Rattle.kex_cover.proofs.LeafMarks.{first_told, more_here, take_among, told_here}
 use Rattle.kex_cover.proofs.MarkedPlaces.{get_among, onward}
+use Rattle.kex_cover.proofs.PairSteps.{refuses}
 use Rattle.kex_cover.proofs.kept.is_covered.Goals as goal
 
 pub returns-then-at-eq0-clause-told : goal.returns-then-at-eq0-clause-told
@@ -21,3 +22,8 @@ returns-clause-told c =
     let g = c.args.machine.now in
     let leaves = c.args.leaves.now in
     onward (λ told. MatchBool told (IsCoveredBy g (get_or leaves c.args.at 0) (take c.args.at leaves)) (IsUncoveredBy g (get_or leaves c.args.at 0) (take c.args.at leaves))) (λ told. ToldAt g leaves c.args.at told) c.ask.result (λ told h. told_here g leaves c.args.at 0 told h) c.ask.ensures.tells
+
+pub returns-clause-refused : goal.returns-clause-refused
+returns-clause-refused c =
+    let most = c.args.questions.now.pairs.most in
+    refuses most c.ask.result (λ h. more_here c.args.machine.now most c.args.leaves.now c.args.at 0 (omega (arith, c.if-at-eq0.false)) h) c.ask.ensures.refused

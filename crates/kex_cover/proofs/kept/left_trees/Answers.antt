@@ -3,7 +3,8 @@ use Rattle.std.specs.Prelude.{slice_get}
 use Rattle.std.proofs.lemmas.Option.{slice_get-get_or}
 use Rattle.kex_model.specs.Labelled.{Shape}
 use Rattle.kex_determine.specs.Determined.{AreStateTrees}
-use Rattle.kex_cover.specs.Keeping.{AreAnswered, AreLeftTrees, OneAsksMore}
+use Rattle.kex_cover.specs.declared.fault.CoverFault.TheVariants.{Memory}
+use Rattle.kex_cover.specs.Keeping.{AreLeftTrees, OneAsksMore}
 use Rattle.kex_cover.specs.Optimal.{AsksAtMost}
 use Rattle.kex_cover.specs.Searches.{RefusesPairs}
 use Rattle.kex_cover.proofs.LeftStates.{asks_more, asks_whole, left_more, left_whole, one_asks, tree_state}
@@ -25,9 +26,12 @@ returns-in_err-left-clause-refused c =
     let top = (goal.at.returns-in_err-left-clause-refused c).After-tree-item in
     let g = c.args.machine.now in
     let err = c.in_err-left.field-0.0 in
-    let more : RefusesPairs c.loop-tree.questions.most ((shapes : List (Shape ℕ)) → AreStateTrees g shapes c.args.trees.now → OneAsksMore g c.loop-tree.questions.most shapes) err =
-    refuses_more c.loop-tree.questions.most err (λ h shapes are. one_asks g shapes c.args.trees.now are c.loop-tree.questions.most c.loop-tree.tree-index c.tree-item.result (at top) h) c.in_err-left.ensures.refused in
+    let more : RefusesPairs c.loop-tree.questions.pairs.most ((shapes : List (Shape ℕ)) → AreStateTrees g shapes c.args.trees.now → OneAsksMore g c.loop-tree.questions.pairs.most shapes) err =
+    refuses_more c.loop-tree.questions.pairs.most err (λ h shapes are. one_asks g shapes c.args.trees.now are c.loop-tree.questions.pairs.most c.loop-tree.tree-index c.tree-item.result (at top) h) c.in_err-left.ensures.refused in
     err_as _ c.from_residual-in_err-left.result err c.from_residual-in_err-left.ensures.1 (subst (λ m. RefusesPairs m ((shapes : List (Shape ℕ)) → AreStateTrees g shapes c.args.trees.now → OneAsksMore g m shapes) err) c.loop-tree.invariant.most more)
+
+pub returns-in_err-push-clause-refused : goal.returns-in_err-push-clause-refused
+returns-in_err-push-clause-refused c = err_as (RefusesPairs c.args.max_pairs ((shapes : List (Shape ℕ)) → AreStateTrees c.args.machine.now shapes c.args.trees.now → OneAsksMore c.args.machine.now c.args.max_pairs shapes)) c.from_residual-in_err-push.result Memory c.from_residual-in_err-push.ensures.1 tt
 
 pub loop-tree-preserved : goal.loop-tree-preserved
 loop-tree-preserved c =
@@ -38,7 +42,7 @@ loop-tree-preserved c =
     record {
       left = λ shapes are. subst (λ z. AreLeftTrees g (take (n + 1) shapes) z) (sym c.in_ok-push.ensures.items) (left_more g shapes c.args.trees.now are n c.tree-item.result c.in_ok-left.left c.loop-tree.lefts.items (at top) (c.loop-tree.invariant.left shapes are) done.left);
       asked = λ shapes are. asks_more g shapes c.args.trees.now are c.args.max_pairs n c.tree-item.result (at top) (c.loop-tree.invariant.asked shapes are) (subst (λ m. AsksAtMost g m c.tree-item.result.leaves) c.loop-tree.invariant.most done.count);
-      answered = subst (λ m. AreAnswered g m c.left_of.new.questions.asked.keys c.left_of.new.questions.answers.items) (sym done.most) done.answered;
+      kept = done.kept;
       most = done.most ∙ c.loop-tree.invariant.most;
       long = done.long ∙ c.loop-tree.invariant.long;
     }

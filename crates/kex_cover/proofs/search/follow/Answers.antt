@@ -1,23 +1,32 @@
-use Rattle.std.proofs.Common.{None, subst, ◌∙◌, arith}
-use Rattle.std.proofs.lemmas.Option.{slice_get-get_or, slice_get_within}
-use Rattle.kex_cover.specs.Searches.{HasMoreFrom, RefusesPairs, all_pair_sets}
+use Rattle.std.proofs.Common.{subst, ◌∙◌, ap, arith}
+use Rattle.std.specs.Prelude.{slice_get}
+use Rattle.std.proofs.lemmas.Option.{slice_get_within}
+use Rattle.kex_cover.specs.Searches.{HasMoreFrom, RefusesPairs, pairs_met}
 use Rattle.kex_cover.proofs.PairSteps.{err_as, refuses_more, more_grown, grows_on, followed_more}
 use Rattle.kex_cover.proofs.search.follow.Goals as goal
 
-pub returns-in_err-follow_sample-clause-err : goal.returns-in_err-follow_sample-clause-err
-returns-in_err-follow_sample-clause-err c =
-    let more : RefusesPairs c.loop-sample.pairs.most (HasMoreFrom c.args.machine.now c.loop-sample.pairs.most (all_pair_sets c.args.pairs.now.pairs.items)) c.in_err-follow_sample.field-0.0 =
-    refuses_more c.loop-sample.pairs.most c.in_err-follow_sample.field-0.0 (more_grown c.args.machine.now (all_pair_sets c.args.pairs.now.pairs.items) (all_pair_sets c.loop-sample.pairs.pairs.items) c.loop-sample.pairs.most c.loop-sample.invariant.grows) c.in_err-follow_sample.ensures.err in
-    err_as _ c.from_residual.result c.in_err-follow_sample.field-0.0 c.from_residual.ensures.1 (subst (λ m. RefusesPairs m (HasMoreFrom c.args.machine.now m (all_pair_sets c.args.pairs.now.pairs.items)) c.in_err-follow_sample.field-0.0) c.loop-sample.invariant.most more)
+pub returns-in_err-follow_class-clause-err : goal.returns-in_err-follow_class-clause-err
+returns-in_err-follow_class-clause-err c =
+    let g = c.args.machine.now in
+    let us = pairs_met c.args.sets.now c.args.pairs.now in
+    let err = c.in_err-follow_class.field-0.0 in
+    let more : RefusesPairs c.loop-class.pairs.most (HasMoreFrom g c.loop-class.pairs.most us) err =
+    refuses_more c.loop-class.pairs.most err (more_grown g us (pairs_met c.loop-class.sets c.loop-class.pairs) c.loop-class.pairs.most c.loop-class.invariant.grows) c.in_err-follow_class.ensures.err in
+    err_as _ c.from_residual.result err c.from_residual.ensures.1 (subst (λ m. RefusesPairs m (HasMoreFrom g m us) err) c.loop-class.invariant.most more)
 
-pub loop-sample-preserved : goal.loop-sample-preserved
-loop-sample-preserved c = record {
-  rooms = c.in_ok-follow_sample.ensures.rooms;
-  most = c.in_ok-follow_sample.ensures.most ∙ c.loop-sample.invariant.most;
-  kept = c.in_ok-follow_sample.ensures.kept;
-  grows = grows_on c.args.machine.now (all_pair_sets c.args.pairs.now.pairs.items) (all_pair_sets c.loop-sample.pairs.pairs.items) (all_pair_sets c.follow_sample.new.pairs.pairs.items) c.loop-sample.invariant.grows c.in_ok-follow_sample.ensures.grows;
-  done = followed_more c.args.machine.now c.loop-sample.sample-index c.args.samples.now (all_pair_sets c.args.pairs.now.pairs.items) (all_pair_sets c.loop-sample.pairs.pairs.items) (all_pair_sets c.follow_sample.new.pairs.pairs.items) c.args.at _ c.loop-sample.invariant.grows c.in_ok-follow_sample.ensures.grows (slice_get-get_or c.args.samples.now c.loop-sample.sample-index None (omega arith)) c.loop-sample.invariant.done c.in_ok-follow_sample.ensures.done;
-}
+pub loop-class-preserved : goal.loop-class-preserved
+loop-class-preserved c =
+    let g = c.args.machine.now in
+    let us = pairs_met c.args.sets.now c.args.pairs.now in
+    let vs = pairs_met c.loop-class.sets c.loop-class.pairs in
+    let ws = pairs_met c.follow_class.new.sets c.follow_class.new.pairs in
+    record {
+      most = c.follow_class.ensures.most ∙ c.loop-class.invariant.most;
+      bytes = c.follow_class.ensures.bytes ∙ c.loop-class.invariant.bytes;
+      kept = c.in_ok-follow_class.ensures.kept;
+      grows = grows_on g us vs ws c.loop-class.invariant.grows c.in_ok-follow_class.ensures.grows;
+      done = followed_more g c.loop-class.class c.args.sets.now.bytes.items us vs ws c.args.at c.loop-class.invariant.grows c.in_ok-follow_class.ensures.grows c.loop-class.invariant.done (λ u b e f. c.in_ok-follow_class.ensures.done u b e (ap (λ z. slice_get z.items c.loop-class.class) c.loop-class.invariant.bytes ∙ f));
+    }
 
 pub returns-clause-done : goal.returns-clause-done
-returns-clause-done c = λ u k b e f. let lt = slice_get_within c.args.samples.now k _ f in c.loop-sample.invariant.done u k b (omega (arith, lt)) e f
+returns-clause-done c = λ u k b e f. let lt = slice_get_within c.args.sets.now.bytes.items k _ f in c.loop-class.invariant.done u k b (omega (arith, lt)) e f

@@ -1,12 +1,12 @@
-use Rattle.std.proofs.Common.{◌≡◌, length}
-use Rattle.kex_cover.specs.Searches.{ArePairsKept, GrowsPairs, IsPairFollowedTo, all_pair_sets, HaveRoom}
+use Rattle.std.proofs.Common.{◌≡◌}
+use Rattle.kex_cover.specs.Searches.{ArePairsKept, GrowsPairs, IsPairFollowedTo, pairs_met}
 use Rattle.kex_cover.proofs.search.follow.Given as goal
 
-abbrev pub invariant-loop-sample : goal.invariant-loop-sample
-invariant-loop-sample l = record {
-  rooms : HaveRoom (length l.fn.machine.nodes) l.rows;
+abbrev pub invariant-loop-class : goal.invariant-loop-class
+invariant-loop-class l = record {
   most : l.pairs.most ≡ l.fn.pairs.most;
-  kept : ArePairsKept l.fn.machine l.pairs;
-  grows : GrowsPairs l.fn.machine (all_pair_sets l.fn.pairs.pairs.items) (all_pair_sets l.pairs.pairs.items);
-  done : IsPairFollowedTo l.sample-index l.fn.machine l.samples (all_pair_sets l.fn.pairs.pairs.items) (all_pair_sets l.pairs.pairs.items) l.at;
+  bytes : l.sets.bytes ≡ l.fn.sets.bytes;
+  kept : ArePairsKept l.fn.machine l.sets l.pairs;
+  grows : GrowsPairs l.fn.machine (pairs_met l.fn.sets l.fn.pairs) (pairs_met l.sets l.pairs);
+  done : IsPairFollowedTo l.class l.fn.machine l.fn.sets.bytes.items (pairs_met l.fn.sets l.fn.pairs) (pairs_met l.sets l.pairs) l.at;
 }

@@ -1,32 +1,24 @@
-use Rattle.std.proofs.Common.{true, refl, subst, arith}
-use Rattle.kex_determine.specs.Numbering.{texts}
-use Rattle.kex_cover.specs.Searches.{IsKeyAdded, IsPairEntered, ArePairsStored, all_pair_sets, pair_sets}
-use Rattle.kex_cover.proofs.Keys.{enter_known, enter_new, is_new}
+use Rattle.std.proofs.Common.{◌≡◌, true, refl, subst, rules, arith}
+use Rattle.std.specs.Bool.{Decides}
+use Rattle.kex_cover.specs.declared.pairs.SetPair.{SetPair}
+use Rattle.kex_cover.specs.contracts.pairs.SetPairPartialEq.TheImpl.{eq-value}
+use Rattle.kex_cover.proofs.Keys.{entered, entered_long, entered_new}
 use Rattle.kex_cover.proofs.pairs.Pairs.enter.Goals as goal
-use Rattle.kex_cover.proofs.pairs.Pairs.enter.Goals.{Then-not-branch, Else-not-branch, In_ok-push}
 
-known : (c : Then-not-branch) → IsPairEntered (all_pair_sets c.args.self.now.pairs.items) (pair_sets c.args.pair) (all_pair_sets c.args.self.now.pairs.items) × ArePairsStored c.add.new.keys.keys c.args.self.now.pairs.items
-known c = enter_known c.args.self.now.keys.keys c.add.new.keys.keys c.args.self.now.pairs.items c.args.pair c.requires.stored c.requires.small c.in_ok-key.key.items c.in_ok-key.ensures (subst (λ z. IsKeyAdded (texts c.args.self.now.keys.keys) c.in_ok-key.key.items z (texts c.add.new.keys.keys)) c.if-not-branch.true c.in_ok-add.ensures)
+same : (p q : SetPair) → eq-value.it p q ≡ true → p ≡ q
+same p q e = search rules
 
-new : (c : Else-not-branch) → IsKeyAdded (texts c.args.self.now.keys.keys) c.in_ok-key.key.items true (texts c.add.new.keys.keys)
-new c = subst (λ z. IsKeyAdded (texts c.args.self.now.keys.keys) c.in_ok-key.key.items z (texts c.add.new.keys.keys)) c.if-not-branch.false c.in_ok-add.ensures
+own : (p : SetPair) → eq-value.it p p ≡ true
+own p = search rules
 
-pub returns-then-not-branch-clause-ok : goal.returns-then-not-branch-clause-ok
-returns-then-not-branch-clause-ok c = (known (goal.at.returns-then-not-branch-clause-ok c).Then-not-branch).0
-
-pub returns-then-not-branch-clause-stored : goal.returns-then-not-branch-clause-stored
-returns-then-not-branch-clause-stored c = (known (goal.at.returns-then-not-branch-clause-stored c).Then-not-branch).1
+decides : (p q : SetPair) → Decides (eq-value.it p q) (p ≡ q)
+decides p q = (same p q, (λ e. subst (λ z. eq-value.it p z ≡ true) e (own p)))
 
 pub returns-then-len-self-clause-err : goal.returns-then-len-self-clause-err
 returns-then-len-self-clause-err c =
-    let top = (goal.at.returns-then-len-self-clause-err c).Else-not-branch in
-    (refl, (is_new c.args.self.now.keys.keys c.add.new.keys.keys c.args.self.now.pairs.items c.args.pair c.requires.stored c.requires.small c.in_ok-key.key.items c.in_ok-key.ensures (new top), omega arith))
-
-entered : (c : In_ok-push) → IsPairEntered (all_pair_sets c.args.self.now.pairs.items) (pair_sets c.args.pair) (all_pair_sets c.push.new.self.items) × ArePairsStored c.add.new.keys.keys c.push.new.self.items
-entered c = enter_new c.args.self.now.keys.keys c.add.new.keys.keys c.args.self.now.pairs.items c.args.pair c.requires.stored c.requires.small c.in_ok-key.key.items c.push.new.self.items c.in_ok-key.ensures (new (goal.at.returns-clause-ok c).Else-not-branch) c.in_ok-push.ensures.items
+    let h = entered eq-value.it decides c.args.self.now.met.keys c.insert_full.new.self.keys c.args.pair c.in_ok-insert_full.ensures.keys in
+    let long = entered_long c.args.self.now.met.keys c.insert_full.new.self.keys c.args.pair h in
+    (refl, (entered_new c.args.self.now.met.keys c.insert_full.new.self.keys c.args.pair h (omega (arith, c.requires.room)), omega (arith, long)))
 
 pub returns-clause-ok : goal.returns-clause-ok
-returns-clause-ok c = (entered c).0
-
-pub returns-clause-stored : goal.returns-clause-stored
-returns-clause-stored c = (entered c).1
+returns-clause-ok c = entered eq-value.it decides c.args.self.now.met.keys c.insert_full.new.self.keys c.args.pair c.in_ok-insert_full.ensures.keys

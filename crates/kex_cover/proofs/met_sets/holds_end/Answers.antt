@@ -1,7 +1,7 @@
 use Rattle.std.proofs.Common.{take, sym, subst, ◌∙◌, arith}
 use Rattle.kex_cover.specs.Searches.{HasEnd}
 use Rattle.kex_cover.proofs.MarkedPlaces.{get_among, one_more, no_end_more}
-use Rattle.kex_cover.proofs.search.holds_end.Goals as goal
+use Rattle.kex_cover.proofs.met_sets.holds_end.Goals as goal
 
 pub node_at-requires : goal.node_at-requires
 node_at-requires c = c.requires _ (get_among c.args.places.now c.loop-place.place-index (omega arith))
