@@ -1,23 +1,28 @@
 // A stage with desks.
 
-ghost use Rattle.std.specs.Prelude.{◌≡◌, ◌≤◌, None, IfOk, IsTrue};
+ghost use Rattle.std.specs.Prelude.{◌≡◌, ◌≤◌, Option, None, IfOk, IsTrue, All, vec_len};
+ghost use Rattle.std.proofs.Common.{◌∙◌};
+ghost use Rattle.kex_pipe.specs.Histories.{StageFed};
 ghost use Rattle.kex_stage.specs.Plans.{teller_of};
 ghost use Rattle.kex_stage.specs.StageLaws.{answering};
 ghost use Rattle.kex_stage.specs.Stages.{Gives};
-ghost use Rattle.kex_chunk_stage.specs.TableWorkers.{stage_plan};
+ghost use Rattle.kex_chunk_stage.specs.TableWorkers.{stage_plan, table_plan_of};
 
+use crate::stage_desk::{StageDesk, unwrap_all, wrap_all};
 use crate::table_worker::{TableBasis, TableWorker};
 use kex_code::memory::Memory;
 use kex_desks::chunk_worker::{ChunkWorker, Crew};
 use kex_pipe::bounded::Bounded;
+use kex_pipe::parted::Parted;
 use kex_pipe::turn::{Fate, Stop, Turn};
 use kex_stage::plan::Plan;
 use std::alloc::Global;
 
-/// A stage with desks, which work on parts of what it reads next. It answers as a `Stage` does,
-/// whatever they make and however many they are.
+/// A stage that hands out desks, which work on parts of what it reads next. It answers as a `Stage`
+/// does, whatever they make and however many they are.
 #[derive(Drop)]
 pub struct ChunkStage<'p> {
+    alloc: Global,
     within: Bounded<ChunkWorker<TableWorker<'p>>>,
 }
 
@@ -54,7 +59,7 @@ impl<'p> ChunkStage<'p> {
             desks: desks_for(workers),
         };
         let within = Bounded::new(alloc, crew, max_input)?;
-        Ok(ChunkStage { within })
+        Ok(ChunkStage { alloc, within })
     }
 
     /// How many parts it has taken over from its desks.
@@ -107,4 +112,35 @@ impl<'p> Turn for ChunkStage<'p> {
     fn stop(&self) -> Option<Stop> {
         self.within.stop()
     }
+}
+
+impl<'p> Parted<StageDesk<'p>> for ChunkStage<'p> {
+    ghost owns = { λ s d. table_plan_of d.within ≡ table_plan_of s.within.worker.worker };
+
+    fn hand_out(&mut self) -> Vec<StageDesk<'p>> {
+        let desks = self.within.hand_out();
+        match wrap_all(self.alloc, desks) {
+            Ok(wrapped) => wrapped,
+            // They are let go: a stage needs no desk.
+            Err(Memory) => Vec::new(self.alloc),
+        }
+    }
+
+    fn take_back(&mut self, desks: Vec<StageDesk<'p>>)
+        requires own { All (λ d. table_plan_of d.within
+            ≡ table_plan_of self.old.within.worker.worker) desks.items }
+        requires few { vec_len desks ≤ 64 }
+        ensures plan { ⟦<ChunkStage<'p> as Turn>⟧.plan self.new
+            ≡ ⟦<ChunkStage<'p> as Turn>⟧.plan self.old }
+        ensures usable { ⟦<ChunkStage<'p> as Turn>⟧.is_usable self.new
+            ≡ ⟦<ChunkStage<'p> as Turn>⟧.is_usable self.old }
+        ensures stands { (h : Option StageFed) → ⟦<ChunkStage<'p> as Turn>⟧.stands self.old h
+            → ⟦<ChunkStage<'p> as Turn>⟧.stands self.new h }
+    {
+        if let Ok(bare) = unwrap_all(self.alloc, desks) {
+            self.within.take_back(bare);
+        }
+    }
+
+    ghost stays_own = { λ s a b e h. e ∙ h };
 }

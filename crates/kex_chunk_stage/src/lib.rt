@@ -5,5 +5,6 @@
 #![tactic(auto)]
 
 pub mod chunk_stage;
+pub mod stage_desk;
 pub mod stage_place;
 pub mod table_worker;

@@ -1,11 +1,12 @@
 // The desks of a stage, which work on parts of a piece at once.
 
 ghost use Rattle.std.specs.Prelude.{◌≡◌, ◌+◌, ◌-◌, ◌<◌, ◌≤◌, ◌^◌, ◌++◌, ◌∷◌, ◌↔◌, [], List, ℕ};
-ghost use Rattle.std.specs.Prelude.{false, IsTrue, OnOk, OnErr, Err, is_err, length, map};
+ghost use Rattle.std.specs.Prelude.{false, IsTrue, OnOk, OnErr, Err, Option, is_err, length, map};
 ghost use Rattle.std.specs.Thread.{IsSync};
 ghost use Rattle.kex_model.specs.Schedules.{Event};
 ghost use Rattle.kex_pipe.specs.Standing.{Stands, BeginsAnswer, HasWritten, in_hand, is_ended};
 ghost use Rattle.kex_pipe.specs.Standing.{is_spent, is_in_round, stage_count};
+ghost use Rattle.kex_pipe.specs.Histories.{StageFed};
 ghost use Rattle.kex_pipe.specs.Rounds.{turn_of};
 
 use kex_pipe::parted::{PartDesk, Parted};
@@ -77,6 +78,22 @@ pub fn work_desks<R: Threads + Sync, D: PartDesk + Send, G: Gate + Sync>(
     let parts = desks.len().min(piece.len());
     let (busy, _idle) = desks.split_at_mut(parts);
     let _done = work_parts(rt, gate, 1, parts as u32, piece, busy);
+}
+
+/// The desks of a stage work at once on parts of a piece that it reads next.
+pub fn work_ahead<R: Threads + Sync, D: PartDesk + Drop + Send, T: Parted<D>, G: Gate + Sync>(
+    rt: &R,
+    stage: &mut T,
+    piece: &[u8],
+    gate: &G,
+)
+    ensures plan { T.plan stage.new ≡ T.plan stage.old }
+    ensures usable { T.is_usable stage.new ≡ T.is_usable stage.old }
+    ensures stands { (h : Option StageFed) → T.stands stage.old h → T.stands stage.new h }
+{
+    let mut desks: Vec<D> = stage.hand_out();
+    work_desks(rt, &mut desks, piece, gate);
+    stage.take_back(desks);
 }
 
 /// Stage `i`, counted from 1, takes a turn of all that waits before it. Its desks work on parts of

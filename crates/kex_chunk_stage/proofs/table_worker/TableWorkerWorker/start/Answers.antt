@@ -1,5 +1,4 @@
-use Rattle.std.proofs.Common.{◌≡◌, [], refl, sym, subst, ◌∙◌}
-use Rattle.kex_machine.specs.Nodes.{IsTrimmed}
+use Rattle.std.proofs.Common.{◌≡◌, [], refl, sym, subst}
 use Rattle.kex_machine.specs.Answers.{IsViableFor}
 use Rattle.kex_stage.specs.Plans.{IsTableAs}
 use Rattle.kex_stage.specs.declared.oracle.Oracle.TheVariants.{Table}
