@@ -24,7 +24,7 @@ use Rattle.kex_moves.specs.declared.edges.Pair.{Pair}
 use Rattle.kex_moves.specs.Edges.{writes, is_written, is_known}
 use Rattle.kex_moves.specs.Runs as runs
 use Rattle.kex_moves.specs.Runs.{RunStop, by_edge, edge_step, stop_behind, on_step, run_of}
-use Rattle.kex_moves.specs.Walks.{TakesCode, code_with_byte}
+use Rattle.kex_held.specs.Walks.{TakesCode, code_with_byte}
 use Rattle.kex_moves.specs.Known.{Known, rows_of, IsPairRow, IsRight, IsKnown, makes}
 use Rattle.kex_moves.specs.Along.{bare, GoesAlong, Reached, RunsOn}
 use Rattle.kex_moves.proofs.KnownEdges.{at_of, known_if}

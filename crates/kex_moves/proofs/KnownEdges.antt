@@ -23,7 +23,7 @@ use Rattle.kex_moves.specs.declared.edges.Pair.{Pair}
 use Rattle.kex_moves.specs.Edges.{writes, is_written, is_known, has_acts, HasRoom, IsAtRow}
 use Rattle.kex_moves.specs.Runs.{HasEdgeRow, LeadsBack, HasRoomBelow, AreEdgesWithin}
 use Rattle.kex_moves.specs.Trails.{EdgesLeadBelow}
-use Rattle.kex_moves.specs.Walks.{code_with_byte, TakesCode, Learns}
+use Rattle.kex_held.specs.Walks.{code_with_byte, TakesCode, Learns}
 use Rattle.kex_moves.specs.Known.{Known, rows_of, IsEdge, IsOrdered, IsPairRow, HasRowFor, IsRight, AreRight, IsPairOf, IsKnown, IsLed, KnownGrows, Widens, Lengthens, Settles, makes}
 
 -- the edge of a row at a class is one of the edges

@@ -2,7 +2,6 @@ mod DraftSteps
 mod EdgeRuns
 mod KeptActions
 mod KnownEdges
-mod ByteWalks
 mod BufferWrites
 mod Runs
 mod PlacedTexts

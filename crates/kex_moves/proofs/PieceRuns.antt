@@ -25,7 +25,7 @@ use Rattle.kex_moves.specs.declared.edge.EdgeKind.TheVariants.{Acts}
 use Rattle.kex_moves.specs.declared.edges.Pair.{Pair}
 use Rattle.kex_moves.specs.Edges.{writes, is_written, is_known}
 use Rattle.kex_moves.specs.Runs.{RunStep}
-use Rattle.kex_moves.specs.Walks.{TakesCode, code_with_byte}
+use Rattle.kex_held.specs.Walks.{TakesCode, code_with_byte}
 use Rattle.kex_moves.specs.Known.{Known, IsPairRow, IsRight, IsKnown, makes}
 use Rattle.kex_moves.specs.Along.{with_sheet, written_with}
 use Rattle.kex_moves.specs.Trails.{IsTrail}

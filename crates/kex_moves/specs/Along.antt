@@ -7,7 +7,7 @@ use Rattle.kex_action.specs.Sheets.{state_with}
 use Rattle.kex_action.specs.Actors.{Position, HasPerformed, BeginsRun, WentOn}
 use Rattle.kex_sst.specs.Tables.{Transducer}
 use Rattle.kex_sst.specs.Passes.{Pass, passes, passes_if}
-use Rattle.kex_moves.specs.Walks.{TakesCode}
+use Rattle.kex_held.specs.Walks.{TakesCode}
 use Rattle.kex_moves.specs.Known.{Known, HasRowFor}
 
 -- at a state without registers

@@ -16,7 +16,7 @@ use Rattle.kex_moves.specs.declared.edge.EdgeKind.TheVariants.{Opens, Unknown}
 use Rattle.kex_moves.specs.declared.edges.Pair.{Pair}
 use Rattle.kex_moves.specs.Edges.{writes, is_written, is_known, has_acts, HasRoom, IsAtRow}
 use Rattle.kex_moves.specs.Runs.{Rows}
-use Rattle.kex_moves.specs.Walks.{TakesCode, code_with_byte}
+use Rattle.kex_held.specs.Walks.{TakesCode, code_with_byte}
 
 -- the class of each byte, how long a row is (2 to the power of `shift`), the pairs of a state and a
 -- node, for each of them a row of edges by class, and the texts and actions of the edges

@@ -1,6 +1,5 @@
 pub mod Edges
 pub mod Runs
-pub mod Walks
 pub mod Known
 pub mod Along
 pub mod Drafts

@@ -27,4 +27,3 @@ mod run;
 mod settle;
 mod spell;
 mod tell;
-mod walk;

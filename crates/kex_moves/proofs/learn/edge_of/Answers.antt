@@ -5,7 +5,7 @@ use Rattle.kex_sst.specs.declared.table.Transition.{Transition}
 use Rattle.kex_sst.specs.Tables.{transition_of}
 use Rattle.kex_moves.specs.declared.edge.Edge.{Edge}
 use Rattle.kex_moves.specs.Edges.{is_known}
-use Rattle.kex_moves.specs.Walks.{Learns}
+use Rattle.kex_held.specs.Walks.{Learns}
 use Rattle.kex_moves.specs.Known.{IsRight, IsLed}
 use Rattle.kex_moves.proofs.PlacedTexts.{map_ok}
 use Rattle.kex_moves.proofs.KnownEdges.{none_left, right_led}

@@ -1,0 +1,11 @@
+pub mod ByteWalks
+pub mod ActLists
+pub mod PartTracks
+pub mod TrackSteps
+pub mod HeldRuns
+pub mod WindowSlices
+pub mod HeldRows
+pub mod ListJoins
+pub mod MarkedTexts
+pub mod LearntEdges
+pub mod EdgeLists

@@ -1,0 +1,10 @@
+pub mod Walks
+pub mod Acts
+pub mod TreeEdges
+pub mod Tracks
+pub mod HeldRuns
+pub mod Slices
+pub mod HeldRows
+pub mod Sealed
+pub mod Windows
+pub mod LearntEdges

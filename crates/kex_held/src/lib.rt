@@ -1,0 +1,12 @@
+//! What a table holds back of a stage, as slices of the input: lists between marks in a window.
+#![tactic(auto)]
+
+pub mod item;
+mod keep;
+pub mod learn;
+pub mod link;
+pub mod list;
+pub mod row;
+pub mod track;
+pub mod walk;
+pub mod window;
