@@ -114,9 +114,9 @@ pub record Carried (w marks : List ℕ) (k : ℕ) (r : HeldRow) : Type 0 where
   pub stands : FitsWindow (drop k w) (shifted_marks k marks) r
   pub same : state_over (drop k w) (shifted_marks k marks) r ≡ state_over w marks r
 
-spans_carried : (w points : List ℕ) (k : ℕ) (xs : List HeldList) → AreRising (length w) points → ((i : ℕ) → i < length points → k ≤ get_or points i 0) → AreListsWithin (length points) xs → tree_edges_of (drop k w) (shifted_marks k points) xs ≡ tree_edges_of w points xs
-spans_carried w points k [] r le h = refl
-spans_carried w points k (x ∷ xs) r le h = ap₂ (λ l m. record { from = x.from; to = x.to; acts = l } ∷ m) (acts_carried w points k (length w) x.items r le h.0) (spans_carried w points k xs r le h.1)
+edges_carried : (w points : List ℕ) (k : ℕ) (xs : List HeldList) → AreRising (length w) points → ((i : ℕ) → i < length points → k ≤ get_or points i 0) → AreListsWithin (length points) xs → tree_edges_of (drop k w) (shifted_marks k points) xs ≡ tree_edges_of w points xs
+edges_carried w points k [] r le h = refl
+edges_carried w points k (x ∷ xs) r le h = ap₂ (λ l m. record { from = x.from; to = x.to; acts = l } ∷ m) (acts_carried w points k (length w) x.items r le h.0) (edges_carried w points k xs r le h.1)
 
 pub row_carried : (w marks : List ℕ) (k : ℕ) (r : HeldRow) → FitsWindow w marks r → k ≤ length w → ((i : ℕ) → i < length marks → k ≤ get_or marks i 0) → Carried w marks k r
 row_carried w marks k r h le low = record {
@@ -125,7 +125,7 @@ row_carried w marks k r h le low = record {
     rising = subst (λ n. AreRising n (shifted_marks k marks)) (sym (length-drop k w)) (rising_carried (length w) k marks h.rising);
     within = h.within;
   };
-  same = ap (λ l. record { state = r.state; node = r.node; edges = l }) (ap (λ p. tree_edges_of (drop k w) p r.lists) (points_carried w marks k) ∙ spans_carried w (points_of w marks) k r.lists (points_rise w marks h.rising) all within);
+  same = ap (λ l. record { state = r.state; node = r.node; edges = l }) (ap (λ p. tree_edges_of (drop k w) p r.lists) (points_carried w marks k) ∙ edges_carried w (points_of w marks) k r.lists (points_rise w marks h.rising) all within);
 }
   where
     within : AreListsWithin (length (points_of w marks)) r.lists

@@ -92,6 +92,16 @@ impl LearntEdge {
         LearntEdge { to, outs, keep }
     }
 
+    /// The row to which it leads, what goes to the output, and which points stay marks: they are
+    /// moved.
+    pub fn into_parts(self) -> (TextRow, Vec<HeldItem>, Vec<u8>)
+        ensures row { result.0 ≡ self.to }
+        ensures outs { result.1.items ≡ self.outs }
+        ensures keep { result.2.items ≡ self.keep }
+    {
+        (self.to, self.outs, self.keep)
+    }
+
     /// The row to which it leads.
     pub fn to(&self) -> &TextRow
         ensures { result.now ≡ self.now.to }
