@@ -1,0 +1,28 @@
+use Rattle.std.proofs.Common.{◌≡◌, ◌∙◌, Some, sym, ap, subst}
+use Rattle.std.specs.Prelude.{IfSome, slice_get}
+use Rattle.kex_held.specs.HeldRows.{HeldRow}
+use Rattle.kex_held.specs.LearntEdges.{IsLearnt}
+use Rattle.kex_held_rows.specs.NumberedEdges.{NumberedEdge}
+use Rattle.kex_held_rows.specs.Books.{RowBook, rows_in}
+use Rattle.kex_held_rows.proofs.book.RowLedger.note_for.Goals as goal
+
+one_value : {a b : HeldRow} → Some a ≡ Some b → a ≡ b
+one_value f = cc
+
+pub returns-clause-right : goal.returns-clause-right
+returns-clause-right c = λ r e.
+    let t = c.args.self.now.table in
+    let nodes = c.args.self.now.machine.nodes in
+    let class = c.args.class in
+    let row = c.row_at.result.now in
+    let edge = c.in-Some.edge in
+    let rows = rows_in c.row_of.new.self.rows in
+    let here : IsLearnt c.self.inside.table.now c.self.inside.machine.now.nodes row class edge = subst (λ o. IfSome o (IsLearnt c.self.inside.table.now c.self.inside.machine.now.nodes row class)) c.in-Some.is (c.in_ok-learnt.ensures {u = tt}).learnt in
+    let learnt : IsLearnt t nodes row class edge = subst (λ (b : RowBook). IsLearnt b.table b.machine.nodes row class edge) c.self.view_is here in
+    let same : row ≡ r = one_value (sym c.row_at.ensures.row ∙ e) in
+    let outs : c.new.result.outs ≡ edge.outs = ap (λ (n : NumberedEdge). n.outs) c.new.ensures ∙ c.into_parts-row.ensures.outs in
+    let keep : c.new.result.keep ≡ edge.keep = ap (λ (n : NumberedEdge). n.keep) c.new.ensures ∙ c.into_parts-row.ensures.keep in
+    let at : slice_get rows c.in-Some-2.to ≡ Some c.into_parts-row.result.0 = subst (λ o. IfSome o (λ i. slice_get rows i ≡ Some c.into_parts-row.result.0)) c.in-Some-2.is (c.in_ok-to.ensures {u = tt}).at in
+    let moved : IsLearnt t nodes r class edge = subst (λ q. IsLearnt t nodes q class edge) same learnt in
+    let kept : IsLearnt t nodes r class (record { to = edge.to; outs = edge.outs; keep = c.new.result.keep }) = subst (λ k. IsLearnt t nodes r class (record { to = edge.to; outs = edge.outs; keep = k })) (sym keep) moved in
+    (edge.to, ap (slice_get rows) (ap (λ (n : NumberedEdge). n.to) c.new.ensures) ∙ at ∙ ap Some c.into_parts-row.ensures.row, subst (λ o. IsLearnt t nodes r class (record { to = edge.to; outs = o; keep = c.new.result.keep })) (sym outs) kept)

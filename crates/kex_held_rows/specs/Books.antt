@@ -1,0 +1,50 @@
+-- Rows by number, and when what is known of them is right.
+use Rattle.std.specs.Prelude.{◌≡◌, ◌<◌, ℕ, List, ◌++◌, Some, All, map, length, slice_get}
+use Rattle.std.specs.Prelude.{get_or}
+use Rattle.kex_byteset.specs.Classes.{class_count}
+use Rattle.kex_machine.specs.declared.MNode.{MNode}
+use Rattle.kex_machine.specs.Nodes.{Graph}
+use Rattle.kex_sst.specs.Tables.{Transducer}
+use Rattle.kex_held.specs.HeldRows.{HeldRow}
+use Rattle.kex_held.specs.LearntEdges.{IsLearnt, IsRowWithin}
+use Rattle.kex_held_rows.specs.declared.note.RowNote.{RowNote}
+use Rattle.kex_held_rows.specs.declared.note.RowNote.TheVariants.{Unknown, Plain, Goes}
+
+-- a row, and what is known of it at each class
+pub record RowNotes : Type 0 where
+  pub row : HeldRow
+  pub notes : List RowNote
+
+-- a table and a machine, and rows by number
+pub record RowBook : Type 0 where
+  pub table : Transducer
+  pub machine : Graph
+  pub rows : List RowNotes
+
+abbrev pub rows_in : List RowNotes → List HeldRow
+rows_in xs = map (λ x. x.row) xs
+
+-- where the row goes by an edge, that leads to a row of the list and is learnt
+abbrev pub IsNoteRight : Transducer → List MNode → List HeldRow → HeldRow → ℕ → RowNote → Type 0
+IsNoteRight t nodes rows r class Unknown = Unit {0}
+IsNoteRight t nodes rows r class Plain = Unit {0}
+IsNoteRight t nodes rows r class (Goes e) = (to : HeldRow) × (slice_get rows e.to ≡ Some to)
+    × IsLearnt t nodes r class (record { to = to; outs = e.outs; keep = e.keep })
+
+-- a row of the table and the machine, with a right note for each class
+pub record IsEntryRight (t : Transducer) (g : Graph) (rows : List HeldRow)
+    (x : RowNotes) : Type 0 where
+  pub row : IsRowWithin t g x.row
+  pub count : length x.notes ≡ class_count t.classes
+  pub notes : (class : ℕ) (d : RowNote) → class < length x.notes
+      → IsNoteRight t g.nodes rows x.row class (get_or x.notes class d)
+
+abbrev pub IsBook : RowBook → Type 0
+IsBook b = All (IsEntryRight b.table b.machine (rows_in b.rows)) b.rows
+
+-- rows stay by their numbers, and others may come behind them
+pub record KeepsRows (old new : RowBook) : Type 0 where
+  pub table : new.table ≡ old.table
+  pub machine : new.machine ≡ old.machine
+  pub more : List HeldRow
+  pub rows : rows_in new.rows ≡ rows_in old.rows ++ more

@@ -1,0 +1,2 @@
+pub mod NumberedEdges
+pub mod Books

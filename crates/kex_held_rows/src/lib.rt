@@ -1,0 +1,6 @@
+//! Rows of held text by number, and what is known of each at each class of bytes.
+#![tactic(auto)]
+
+pub mod book;
+pub mod note;
+mod same;

@@ -1,0 +1,149 @@
+// What is known of a row.
+
+ghost use Rattle.std.specs.Prelude.{◌≡◌, ◌<◌, IfOk, length, replicate, slice_set};
+ghost use Rattle.kex_held_rows.specs.declared.note.RowNote.TheVariants.{Unknown};
+
+use kex_code::memory::Memory;
+use kex_held::item::HeldItem;
+use kex_held::row::TextRow;
+use std::alloc::Global;
+use std::marker::Model;
+
+/// An edge to a row, by its number, with items for the output and the points that stay marks.
+#[derive(Drop)]
+pub struct KnownEdge {
+    to: u32,
+    outs: Vec<HeldItem>,
+    keep: Vec<u8>,
+}
+
+impl Model for KnownEdge {
+    ghost use Rattle.kex_held_rows.specs.NumberedEdges.{NumberedEdge};
+
+    ghost Value = { NumberedEdge };
+
+    ghost view = { λ e. record { to = e.to; outs = e.outs.items; keep = e.keep.items } };
+}
+
+impl KnownEdge {
+    /// The edge of these parts, which are moved.
+    pub fn new(to: u32, outs: Vec<HeldItem>, keep: Vec<u8>) -> KnownEdge
+        ensures { result ≡ record { to = to; outs = outs.items; keep = keep.items } }
+    {
+        KnownEdge { to, outs, keep }
+    }
+
+    /// The number of the row to which it leads.
+    pub fn to(&self) -> u32
+        ensures { result ≡ self.now.to }
+    {
+        self.to
+    }
+
+    /// What goes to the output.
+    pub fn outs(&self) -> &[HeldItem]
+        ensures { result.now ≡ self.now.outs }
+    {
+        &self.outs
+    }
+
+    /// Which points stay marks, by their numbers.
+    pub fn keep(&self) -> &[u8]
+        ensures { result.now ≡ self.now.keep }
+    {
+        &self.keep
+    }
+}
+
+/// What is known of a row at a class of bytes.
+#[derive(Drop)]
+pub enum RowNote {
+    /// Nothing is learnt yet.
+    Unknown,
+    /// No edge: the byte is taken in another way.
+    Plain,
+    /// It goes along an edge.
+    Goes(KnownEdge),
+}
+
+/// A row with what is known of it at each class, and the number of an earlier row of its state.
+#[derive(Drop)]
+pub struct KnownRow {
+    row: TextRow,
+    earlier: u32,
+    notes: Vec<RowNote>,
+}
+
+impl Model for KnownRow {
+    ghost use Rattle.kex_held_rows.specs.Books.{RowNotes};
+
+    ghost Value = { RowNotes };
+
+    ghost view = { λ x. record { row = x.row; notes = x.notes.items } };
+}
+
+// So many notes that nothing is learnt.
+fn unknown(alloc: Global, classes: usize) -> Result<Vec<RowNote>, Memory>
+    ensures { IfOk result (λ notes. notes.items ≡ replicate classes Unknown) }
+{
+    let mut notes = Vec::new(alloc);
+    for _ in 0..classes {
+        notes.push(RowNote::Unknown)?;
+    }
+    Ok(notes)
+}
+
+impl KnownRow {
+    /// A row of which nothing is learnt at so many classes.
+    pub fn new(
+        alloc: Global,
+        row: TextRow,
+        earlier: u32,
+        classes: usize,
+    ) -> Result<KnownRow, Memory>
+        ensures { IfOk result (λ x.
+            x ≡ record { row = row; notes = replicate classes Unknown }) }
+    {
+        let notes = unknown(alloc, classes)?;
+        Ok(KnownRow {
+            row,
+            earlier,
+            notes,
+        })
+    }
+
+    /// The row.
+    pub fn row(&self) -> &TextRow
+        ensures { result.now ≡ self.now.row }
+    {
+        &self.row
+    }
+
+    /// The row, which is moved.
+    pub fn into_row(self) -> TextRow
+        ensures { result ≡ self.row }
+    {
+        self.row
+    }
+
+    /// The number of an earlier row of its state.
+    pub fn earlier(&self) -> u32 {
+        self.earlier
+    }
+
+    /// What is known of it, by class.
+    pub fn notes(&self) -> &[RowNote]
+        ensures { result.now ≡ self.now.notes }
+    {
+        &self.notes
+    }
+
+    /// Notes what is known at a class.
+    pub fn note(&mut self, class: usize, note: RowNote)
+        requires { class < length self.old.notes }
+        ensures { self.new
+            ≡ record { row = self.old.row; notes = slice_set self.old.notes class note } }
+    {
+        self.notes[class] = note;
+    }
+}
