@@ -1,10 +1,8 @@
 // What is learnt of a row at a class of bytes.
 
-ghost use Rattle.std.specs.Prelude.{◌≡◌, ◌<◌, ◌≤◌, ◌+◌, IfOk, IfSome, length, List};
+ghost use Rattle.std.specs.Prelude.{◌<◌, ◌+◌, IfOk, IfSome};
 ghost use Rattle.kex_byteset.specs.Classes.{class_count};
-ghost use Rattle.kex_sst.specs.Tables.{Transducer};
-ghost use Rattle.kex_held.specs.HeldRows.{RowEdge};
-ghost use Rattle.kex_held.specs.LearntEdges.{IsRowWithin, IsLearnt, AreListsOf, IsEdgeWith};
+ghost use Rattle.kex_held.specs.LearntEdges.{IsRowWithin, IsLearnt, IsEdgeWith};
 
 use crate::item::{HeldItem, RegisterText};
 use crate::keep::{points_to_keep, renumber_texts};
@@ -84,7 +82,16 @@ pub fn learn_edge(
     let Some(out) = track(alloc, machine, texts, row.node(), update.out().as_slice())? else {
         return Ok(None);
     };
-    let Some(tracked) = track_edges(alloc, machine, texts, out.to(), update.regs())? else {
+    let tracked = track_edges(
+        alloc,
+        table,
+        machine,
+        texts,
+        target,
+        out.to(),
+        update.regs(),
+    )?;
+    let Some(tracked) = tracked else {
         return Ok(None);
     };
     let outs = list_of(alloc, machine, texts, marks, out.links())?;

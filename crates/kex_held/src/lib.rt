@@ -8,5 +8,6 @@ pub mod link;
 pub mod list;
 pub mod row;
 pub mod track;
+mod upper;
 pub mod walk;
 pub mod window;

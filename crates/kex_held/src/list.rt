@@ -1,6 +1,6 @@
 // How a list of items is made, one item behind another.
 
-ghost use Rattle.std.specs.Prelude.{◌≡◌, ◌+◌, ◌<◌, ◌^◌, ◌∷◌, [], ℕ, List, OnOk, IfOk, IfSome};
+ghost use Rattle.std.specs.Prelude.{◌≡◌, ◌+◌, ◌<◌, ◌^◌, ◌∷◌, [], List, OnOk, IfOk, IfSome};
 ghost use Rattle.std.specs.Prelude.{slice_get};
 ghost use Rattle.kex_model.specs.Acting.{ActingState, after_effect};
 ghost use Rattle.kex_machine.specs.declared.MNode.{MNode};

@@ -1,6 +1,6 @@
 // Rows and the edges between them.
 
-ghost use Rattle.std.specs.Prelude.{◌≡◌, length};
+ghost use Rattle.std.specs.Prelude.{◌≡◌};
 
 use crate::item::{HeldItem, RegisterText};
 use std::marker::Model;

@@ -1,16 +1,18 @@
 // How a list of parts is made of old lists, at a node.
 
-ghost use Rattle.std.specs.Prelude.{◌≡◌, ◌<◌, ◌∷◌, ◌++◌, [], IfOk, OnOk, IfSome, IsTrue, length};
+ghost use Rattle.std.specs.Prelude.{◌≡◌, ◌<◌, ◌++◌, [], IfOk, OnOk, IfSome, length};
 ghost use Rattle.kex_held.specs.LearntEdges.{AreTrackedAny};
 ghost use Rattle.kex_held.specs.Tracks.{TracksAny, GoesBy, StepsBy, own_all};
 
 use crate::item::RegisterText;
 use crate::link::Link;
+use crate::upper::{Place, upper_end};
 use crate::walk::learn_to_rest;
 use kex_action::action::Action;
 use kex_code::memory::Memory;
 use kex_machine::{MNode, Trimmed};
 use kex_sst::parts::{Part, Parts};
+use kex_sst::table::Table;
 use std::alloc::Global;
 use std::marker::Model;
 
@@ -203,16 +205,18 @@ fn track_from_any(
     Ok(None)
 }
 
-/// The lists of parts of new registers, each from the upper end of its edge of the path tree.
-/// `None` says nothing.
+/// The lists of parts of new registers of a state, each from the upper end of its edge of the path
+/// tree. `None` says nothing.
 ///
-/// An upper end is a node with a choice, to which the root or the lower end of an edge leads
-/// without a byte. Which one it is is found by trying them in preorder, as the registers stand.
-/// Nothing rests on that: what is tracked is right from whichever node.
+/// An upper end is told by what comes later, or found by trying nodes with a choice to which the
+/// root or a lower end leads without a byte. Nothing rests on that: what is tracked is right from
+/// whichever node.
 pub fn track_edges(
     alloc: Global,
+    table: &Table,
     machine: &Trimmed,
     texts: &[RegisterText],
+    state: u32,
     root: u32,
     lists: &[Parts],
 ) -> Result<Option<Vec<Tracked>>, Memory>
@@ -223,6 +227,17 @@ pub fn track_edges(
     put_forks(alloc, machine, root, &mut forks)?;
     let mut all = Vec::new(alloc);
     'lists: for parts in lists {
+        let Ok(register) = u32::try_from(all.len()) else {
+            return Ok(None);
+        };
+        let place = Place {
+            state,
+            root,
+            register,
+        };
+        if let Some(upper) = upper_end(alloc, table, machine, &all, place)? {
+            forks.insert(0, upper)?;
+        }
         let tracked = track_from_any(alloc, machine, texts, &forks, parts.as_slice())?;
         let Some(tracked) = tracked else {
             return Ok(None);

@@ -1,8 +1,8 @@
 // What an update's code does at a node: a walk over the nodes, for every byte at once.
 
-ghost use Rattle.std.specs.Prelude.{◌≡◌, ◌<◌, [], ◌∷◌, ℕ, IfOk, IfSome, IsTrue, length};
+ghost use Rattle.std.specs.Prelude.{◌≡◌, ◌<◌, [], ◌∷◌, ℕ, IfOk, IfSome, length};
 ghost use Rattle.kex_model.specs.Moves.{Allows};
-ghost use Rattle.kex_machine.specs.Nodes.{node_moves, move_of, IsBelow};
+ghost use Rattle.kex_machine.specs.Nodes.{move_of, IsBelow};
 ghost use Rattle.kex_action.specs.Holdings.{Rests, step_by};
 ghost use Rattle.kex_sst.specs.Parts.{value};
 ghost use Rattle.kex_held.specs.Walks.{symbol_at, WalkGoesOn, Learns};

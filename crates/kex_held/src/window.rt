@@ -1,6 +1,6 @@
 // A window of input bytes, with marks in it.
 
-ghost use Rattle.std.specs.Prelude.{◌≡◌, ◌<◌, ◌≤◌, ◌+◌, ◌^◌, ◌++◌, [], ◌∷◌, ℕ, OnOk, length};
+ghost use Rattle.std.specs.Prelude.{◌≡◌, ◌<◌, ◌≤◌, ◌+◌, ◌^◌, ◌++◌, [], ℕ, OnOk, length};
 ghost use Rattle.std.specs.Prelude.{get_or, slice_get, drop};
 ghost use Rattle.kex_held.specs.Slices.{slice_between, AreRising, AreKept, IsItemWithin};
 ghost use Rattle.kex_held.specs.Slices.{marks_by, shifted_marks};

@@ -17,7 +17,7 @@ returns-clause-learnt c =
     let class = c.args.class in
     let by : Transition = record { target = c.in-Some.target; update = c.in-Some.update.now } in
     let out = c.in-Some-2.out in
-    let regs = c.in-Some-3.tracked.items in
+    let regs = c.in-Some-tracked.tracked.items in
     let outs = c.in_ok-outs.outs.items in
     let new = c.in_ok-new.new.items in
     let texts = c.texts-texts.ensures in
@@ -26,7 +26,7 @@ returns-clause-learnt c =
     let from : out.from ≡ c.node.result = subst (λ o. IfSome o (λ p. p.from ≡ c.node.result)) c.in-Some-2.is (c.in_ok-out.ensures {u = tt}).from in
     let tracks : TracksAny nodes c.texts-texts.result.now c.as_slice.result.now c.node.result out.to out.links = subst (λ o. IfSome o (λ p. TracksAny nodes c.texts-texts.result.now c.as_slice.result.now c.node.result p.to p.links)) c.in-Some-2.is (c.in_ok-out.ensures {u = tt}).tracks in
     let tracks' : TracksAny nodes r.lists by.update.out out.from out.to out.links = subst (λ l. TracksAny nodes l by.update.out out.from out.to out.links) texts (subst (λ l. TracksAny nodes c.texts-texts.result.now l out.from out.to out.links) (c.as_slice.ensures ∙ c.out.ensures) (subst (λ n. TracksAny nodes c.texts-texts.result.now c.as_slice.result.now n out.to out.links) (sym from) tracks)) in
-    let all : AreTrackedAny nodes c.texts-texts.result.now c.regs.result.now regs = subst (λ o. IfSome o (λ ps. AreTrackedAny nodes c.texts-texts.result.now c.regs.result.now ps.items)) c.in-Some-3.is (c.in_ok-tracked.ensures {u = tt}) in
+    let all : AreTrackedAny nodes c.texts-texts.result.now c.regs.result.now regs = subst (λ o. IfSome o (λ ps. AreTrackedAny nodes c.texts-texts.result.now c.regs.result.now ps.items)) c.in-Some-tracked.is (c.in_ok-tracked.ensures {u = tt}) in
     let all' : AreTrackedAny nodes r.lists by.update.regs regs = subst (λ l. AreTrackedAny nodes l by.update.regs regs) texts (subst (λ l. AreTrackedAny nodes c.texts-texts.result.now l regs) c.regs.ensures all) in
     let list : ListGoesOn nodes [] (items_by_links r.lists r.marks out.links) outs = subst (λ l. ListGoesOn nodes [] l outs) (ap₂ (λ x m. items_by_links x m c.links.result.now) texts marks ∙ ap (items_by_links r.lists r.marks) c.links.ensures) (c.in_ok-outs.ensures {u = tt}) in
     let lists : AreListsOf nodes r.lists r.marks regs new = subst (λ l. AreListsOf nodes l r.marks regs new) texts (subst (λ m. AreListsOf nodes c.texts-texts.result.now m regs new) marks (subst (λ l. AreListsOf nodes c.texts-texts.result.now c.marks-marks.result l new) c.deref.ensures.value (c.in_ok-new.ensures {u = tt}))) in

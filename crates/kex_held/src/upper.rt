@@ -1,0 +1,185 @@
+// Where a register of a state begins: the node at the upper end of its edge of the path tree.
+//
+// A table doesn't say it, and where constants were taken out not even the preorder of its registers
+// does. But what is passed on later says it, where it takes the register behind what is known.
+// Nothing rests on the answer.
+
+use crate::track::Tracked;
+use kex_code::memory::Memory;
+use kex_code::symbol::Symbol;
+use kex_machine::{MNode, Trimmed};
+use kex_sst::parts::{Part, Parts, Update};
+use kex_sst::table::Table;
+use std::alloc::Global;
+
+/// How many nodes are passed that need no symbol.
+const MOST_PASSED: usize = 256;
+
+/// How many places are looked at for one register.
+const MOST_PLACES: usize = 64;
+
+/// A register of a state, where the actor is at a node.
+#[derive(Clone, Copy, Debug, PartialEq, Eq)]
+pub struct Place {
+    pub state: u32,
+    pub root: u32,
+    pub register: u32,
+}
+
+/// Where a walk along parts has come: to the register that is looked for, to the end, or to a part
+/// that can't be told.
+#[derive(Clone, Copy, Debug, PartialEq, Eq)]
+pub enum Came {
+    ToRegister(u32),
+    ToEnd(u32),
+    Nowhere,
+}
+
+// The node at which a symbol or the end comes next.
+fn rest(machine: &Trimmed, node: u32) -> u32 {
+    let mut at = node;
+    for _ in 0..MOST_PASSED {
+        match machine.nodes().get(at as usize) {
+            Some(MNode::Do(_, next)) => at = *next,
+            Some(MNode::Skip(next)) => at = *next,
+            _ => return at,
+        }
+    }
+    at
+}
+
+// Where choices lead from a node, up to the first register.
+fn walk(machine: &Trimmed, from: u32, parts: &[Part], register: u32) -> Came {
+    let mut at = rest(machine, from);
+    for part in parts {
+        if *part == Part::Old(register) {
+            return Came::ToRegister(at);
+        }
+        let next = match (machine.nodes().get(at as usize), *part) {
+            (Some(MNode::Choice(left, _)), Part::Put(Symbol::L)) => *left,
+            (Some(MNode::Choice(_, right)), Part::Put(Symbol::R)) => *right,
+            (Some(MNode::Forced(_, next)), Part::Put(_)) => *next,
+            _ => return Came::Nowhere,
+        };
+        at = rest(machine, next);
+    }
+    Came::ToEnd(at)
+}
+
+// The node at which a register begins in a list, behind one whose lower end is known.
+fn behind(machine: &Trimmed, known: &[Tracked], parts: &[Part], register: u32) -> Option<u32> {
+    let mut at = Came::Nowhere;
+    for part in parts {
+        if let (Came::ToEnd(node), Part::Old(old)) = (at, *part) {
+            if old == register {
+                return Some(node);
+            }
+        }
+        at = match (*part, at) {
+            (Part::Old(old), _) => match known.get(old as usize) {
+                Some(tracked) => walk(machine, tracked.to(), &[], register),
+                None => Came::Nowhere,
+            },
+            (_, Came::ToEnd(node)) => walk(machine, node, &[*part], register),
+            _ => Came::Nowhere,
+        };
+    }
+    None
+}
+
+// The same in any list of an update.
+fn behind_any(machine: &Trimmed, known: &[Tracked], update: &Update, register: u32) -> Option<u32> {
+    if let Some(node) = behind(machine, known, update.out().as_slice(), register) {
+        return Some(node);
+    }
+    for parts in update.regs() {
+        if let Some(node) = behind(machine, known, parts.as_slice(), register) {
+            return Some(node);
+        }
+    }
+    None
+}
+
+// Notes the registers behind an update that begin with what a register held.
+fn follow(
+    places: &mut Vec<Place>,
+    target: u32,
+    root: u32,
+    lists: &[Parts],
+    register: u32,
+) -> Result<(), Memory> {
+    for (number, parts) in lists.iter().enumerate() {
+        let Ok(number) = u32::try_from(number) else {
+            return Ok(());
+        };
+        let place = Place {
+            state: target,
+            root,
+            register: number,
+        };
+        let begins = parts.as_slice().first() == Some(&Part::Old(register));
+        if begins && !places.contains(&place) {
+            places.push(place)?;
+        }
+    }
+    Ok(())
+}
+
+// What the transitions of a place's state tell of its register; else where it goes on.
+fn look(
+    table: &Table,
+    machine: &Trimmed,
+    known: &[Tracked],
+    place: Place,
+    places: &mut Vec<Place>,
+) -> Result<Option<u32>, Memory> {
+    let Some(state) = table.states().get(place.state as usize) else {
+        return Ok(None);
+    };
+    for transition in state.go() {
+        let Some(transition) = transition else {
+            continue;
+        };
+        let update = transition.update.get();
+        match walk(machine, place.root, update.out().as_slice(), place.register) {
+            Came::ToRegister(node) => return Ok(Some(node)),
+            Came::ToEnd(root) => {
+                follow(
+                    places,
+                    transition.target,
+                    root,
+                    update.regs(),
+                    place.register,
+                )?;
+            }
+            Came::Nowhere => {}
+        }
+        if let Some(node) = behind_any(machine, known, update, place.register) {
+            return Ok(Some(node));
+        }
+    }
+    Ok(None)
+}
+
+/// The node at which a register of a state begins, as far as what comes later tells it, where the
+/// actor is at a node and these registers before it are known.
+pub fn upper_end(
+    alloc: Global,
+    table: &Table,
+    machine: &Trimmed,
+    known: &[Tracked],
+    place: Place,
+) -> Result<Option<u32>, Memory> {
+    let mut places = Vec::new(alloc);
+    places.push(place)?;
+    for at in 0..MOST_PLACES {
+        let Some(next) = places.get(at).copied() else {
+            return Ok(None);
+        };
+        let known = if at == 0 { known } else { &[] };
+        if let Some(node) = look(table, machine, known, next, &mut places)? {
+            return Ok(Some(node));
+        }
+    }
+    Ok(None)
+}
