@@ -9,3 +9,4 @@ pub mod ListJoins
 pub mod MarkedTexts
 pub mod LearntEdges
 pub mod EdgeLists
+pub mod RowRuns
