@@ -46,6 +46,9 @@ trial 2 #  #  # lines 2 in 18 out 18 roll 1142616778$ # 0
 trial 0 --rings=1 #  #  # lines 0 in 0 out 0 roll 0$ # 0
 trial 1 --rings=2 #  #  # lines 1 in 9 out 9 roll 393038870$ # 0
 trial 2 --rings=1 #  #  # lines 2 in 18 out 18 roll 1142616778$ # 0
+trial 0 --workers=2 #  #  # lines 0 in 0 out 0 roll 0$ # 0
+trial 1 --workers=3 #  #  # lines 1 in 9 out 9 roll 393038870$ # 0
+trial 2 --workers=64 #  #  # lines 2 in 18 out 18 roll 1142616778$ # 0
 "#;
 
 #[test]

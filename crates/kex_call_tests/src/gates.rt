@@ -71,6 +71,19 @@ fn gate_meets_each(rt: HostRuntime) -> Result<(), Fail> {
     Ok(())
 }
 
+// The two halves of a block are worked on at once.
+#[test]
+fn gate_meets_chunks(rt: HostRuntime) -> Result<(), Fail> {
+    let gate = MeetGate::default();
+    let words = "kex run p --workers 2";
+    let input = b"abx".to_vec(rt.alloc())?;
+    let (status, output) = call(&rt, rt.alloc(), words, b"main := /ab*c/", input, &gate)?;
+    assert_eq!(&rt; status.number(), 1);
+    assert!(&rt; output.as_slice() == b"ab");
+    assert!(&rt; gate.saw(1) && gate.saw(2));
+    Ok(())
+}
+
 // Counts how often stages begin their work.
 #[derive(Drop)]
 struct EntryGate {
@@ -89,9 +102,15 @@ impl Gate for EntryGate {
 // Between them a round takes all that came; over rings a stage takes in a round no more than 16
 // times a ring's room, and after 64 rounds the rest is settled. A trial of one line has nine bytes
 // and goes by blocks through two stages, of which the first writes at the end of the line. Lines by
-// themselves are shared out in as many parts as there are workers, or lines if those are fewer.
+// themselves are shared out in as many parts as there are workers, or lines if those are fewer. So
+// is a block, in parts as many as workers, or bytes: each part is one entry, and the stage's own
+// turns are none.
 const COUNTS: &str = "\
 run p --block=65536 # %a%2000% # 3
+run p --workers=3 # %a%2000% # 3
+run p --workers=64 # %a%5% # 5
+run p --workers=2 --rings=1 # %a%1000% # 65
+trial 1 --workers=2 #  # 4
 run p --rings=1 # %a%1000% # 65
 run p --rings=1 # %a%2000% # 66
 run p --rings=2 # %a%2000% # 65

@@ -1,5 +1,5 @@
-//! What runs read and write, with blocks of several lengths, and where rings join the stages; on
-//! inputs that have a parse and on some that have none.
+//! What runs read and write, with blocks of several lengths, where rings join the stages and where
+//! workers share a block; on inputs that have a parse and on some that have none.
 use crate::call::{Case, USUAL, each_holds, holds};
 use std::alloc::{AllocError, Global};
 use std::test::Fail;
@@ -16,6 +16,14 @@ const RINGS: [&str; 9] = [
     "--rings=4096 --block=65536",
     "--rings=4096 --block=1",
     "--rings=4096 --block=3",
+];
+
+const WORKERS: [&str; 5] = [
+    "--workers=2",
+    "--workers=3",
+    "--workers=64",
+    "--workers=2 --block=3",
+    "--workers=2 --rings=2",
 ];
 
 // Programs of one stage: terms of each kind, inputs with a parse and then inputs without one.
@@ -149,6 +157,49 @@ fn what_is_best_ends_as_what_is_meant(rt: HostRuntime) -> Result<(), Fail> {
         each_holds(&rt, rt.alloc(), rows.as_str(), &options)?;
     }
     Ok(())
+}
+
+#[test]
+fn workers_change_nothing(rt: HostRuntime) -> Result<(), Fail> {
+    each_holds(&rt, rt.alloc(), ONE_STAGE, &WORKERS)?;
+    each_holds(&rt, rt.alloc(), PIPELINES, &WORKERS)
+}
+
+// Lines that workers share: a register that is read before it is set, line feeds in quotes, a
+// register that no line leaves as it was, and two stages.
+const LINES: &str = r#"
+run p # main := (!a "<" a@/[a-z]+/ ">" /\n/)* # %ab$cd$%9%ef$ # <>$%ab<>$cd<>$%9% # 0
+run p # main := (/"[^"]*"\n/)* # %"a$b"$%20% # %"a$b"$%20% # 0
+run p # main := ([r += "x"] /a\n/)* !r # %a$%10% # %a$%10%xxxxxxxxxx # 0
+run p # start: a >> b a := (w@/[a-z]+/ "," !w /\n/)* b := (~/,/ /[a-z]*\n/)* # %ab$%30% # %ab$%30% # 0
+"#;
+
+// Eight lines of three bytes have a byte that is refused: the first of a part, the last, the last
+// before it and one within. Then a limit ends at a part, within it and behind all.
+const STOPS: &str = r#"
+run p # main := (/[a-z]*\n/)* # %ab$%2%Xb$ab$ab$ab$ab$ab$ # %ab$%2% # 1 rejected: stage 1 at byte 6
+run p # main := (/[a-z]*\n/)* # %ab$%4%abXab$ab$ab$ # %ab$%4%ab # 1 rejected: stage 1 at byte 14
+run p # main := (/[a-z]*\n/)* # %ab$%5%Xb$ab$ab$ # %ab$%5% # 1 rejected: stage 1 at byte 15
+run p # main := (/[a-z]*\n/)* # %ab$%5%aX$ab$ab$ # %ab$%5%a # 1 rejected: stage 1 at byte 16
+run p # main := (/[a-z]*\n/)* # %ab$%7%abX # %ab$%7%ab # 1 rejected: stage 1 at byte 23
+run p --max-input 15 # main := (/[a-z]*\n/)* # %ab$%8% # %ab$%5% # 8 too long: stage 1 at byte 15
+run p --max-input 16 # main := (/[a-z]*\n/)* # %ab$%8% # %ab$%5%a # 8 too long: stage 1 at byte 16
+run p --max-input 24 # main := (/[a-z]*\n/)* # %ab$%8% # %ab$%8% # 0
+"#;
+
+// There is no line, or one that is longer than a part.
+const LONG_LINES: &str = r#"
+run p # main := /a*/ # %a%40% # %a%40% # 0
+run p # main := (/[a-z]*\n/)* # %a%40%$b$ # %a%40%$b$ # 0
+run p # main := (/[a-z]*\n/)* # b$%a%40%$ # b$%a%40%$ # 0
+run p # main := (/[a-z]*\n/)* # b$c$%a%40% # b$c$%a%40% # 1 rejected: stage 1 at byte 44 (end)
+"#;
+
+#[test]
+fn workers_share_lines(rt: HostRuntime) -> Result<(), Fail> {
+    each_holds(&rt, rt.alloc(), LINES, &WORKERS)?;
+    each_holds(&rt, rt.alloc(), STOPS, &WORKERS)?;
+    each_holds(&rt, rt.alloc(), LONG_LINES, &WORKERS)
 }
 
 #[test]

@@ -42,6 +42,9 @@ use Rattle.kex_top.specs.Trials.{AreTrialCounts, made_lines, trial_text, usual_s
 use Rattle.kex_top.specs.declared.start.StartError.{StartError}
 use Rattle.kex_top.specs.declared.start.StartError.TheVariants as start
 use Rattle.kex_top.specs.Answer.{Said}
+use Rattle.kex_top.specs.Piped.{limit_of, plans_of, stages_of}
+use Rattle.kex_top.specs.declared.any_pipe.AnyPipe.{AnyPipe}
+use Rattle.kex_pipe.specs.declared.turn.Turn.{Ghosts}
 use Rattle.kex_top.specs.Pipelines.{Answered, NodesSay, StagesSay, agreed_plans, first_limit, stage_plans, told_plans}
 use Rattle.kex_top.specs.Run.{IsAsBefore, Left, Ran, EndsAs, WritesAll}
 use Rattle.kex_top.specs.Kex.{CommandAnswers, CommandWorks}
@@ -260,6 +263,9 @@ first-limit limit (t ∷ stages) lt = refl
 pub first-of : {S P : Type 0} (plan : S → P) (limit : P → ℕ) (ss : List S) → first_limit (λ s. limit (plan s)) ss ≡ first_limit limit (map plan ss)
 first-of plan limit [] = refl
 first-of plan limit (s ∷ ss) = refl
+
+pub pipe-limit : {T : Type 0} {t : Ghosts T} (limit : t.Plan → ℕ) (pipe : AnyPipe T t) → limit_of t (λ s. limit (t.plan s)) pipe ≡ first_limit limit (plans_of t pipe)
+pipe-limit {t = t} limit pipe = first-of t.plan limit (stages_of t pipe)
 
 module _ (mode : Mode) (limit : ℕ) (ms : List Graph) (block : ℕ) (source sink : StreamChange) (s : Status) where
   pub ran_by : (states : ℕ) (optimal : Bool) → mode ≡ running states optimal → 0 < length ms → Ran (NodesSay (told_plans (asked_telling (limits_of mode)) limit ms)) block source sink s → Ran (MachinesSay mode limit ms) block source sink s

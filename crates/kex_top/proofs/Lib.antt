@@ -1,5 +1,7 @@
 pub mod Schedules
 pub mod StageRounds
+pub mod StageOrder
+pub mod PlannedStages
 pub mod RingRounds
 pub mod PipeAnswers
 pub mod LineColumns

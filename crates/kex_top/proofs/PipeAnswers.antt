@@ -1,5 +1,6 @@
 -- What a pipe of stages says of what it was fed.
-use Rattle.std.proofs.Common.{◌≡◌, ℕ, ◌<◌, Bool, true, false, List, [], ◌∷◌, ◌++◌, ◌||◌, Option, Some, None, length, map, get_or, zero, suc, arith, refl, sym, ap, ap₂, subst, ◌∙◌, append-nil}
+use Rattle.std.proofs.Common.{◌≡◌, ℕ, ◌<◌, Bool, true, false, List, [], ◌∷◌, ◌++◌, ◌||◌, Option, Some, None, length, map, take, get_or, zero, suc, arith, refl, sym, ap, ap₂, subst, ◌∙◌, append-nil}
+use Rattle.std.proofs.lemmas.List.{take_all}
 use Rattle.kex_model.specs.Answers.{Answer, Pipeline}
 use Rattle.kex_model.specs.Schedules.{StreamItem, Progress, has_end, Event, give, give_end, After, Settled}
 use Rattle.kex_pipe.specs.Events.{bytes_given, end_given}
@@ -17,16 +18,16 @@ use Rattle.kex_pipe.proofs.Schedule.{came-given, bytes_given-append, end_given-a
 use Rattle.kex_rings.specs.Lines as by_rings
 use Rattle.kex_rings.specs.declared.ring_seat.RingSeat.{RingSeat}
 use Rattle.kex_top.specs.declared.any_pipe.AnyPipe.{AnyPipe}
-use Rattle.kex_top.specs.declared.any_pipe.AnyPipe.TheVariants.{Rounds, Rings}
+use Rattle.kex_top.specs.declared.any_pipe.AnyPipe.TheVariants.{Rounds, Turns, Rings}
 use Rattle.kex_top.specs.Answer.{Said}
 use Rattle.kex_top.specs.History.{StagesFed, History, bytes_passed, history_text, is_history_ended, IsFateOfStages, FeedsStages}
 use Rattle.kex_top.specs.Piped as piped
-use Rattle.kex_top.specs.Piped.{plans_of, any_in_hand, is_any_in_round, AnyPipeStands, IsPipeSettled, IsWorkedOff, HasSaid, PipeStands}
+use Rattle.kex_top.specs.Piped.{plans_of, any_in_hand, is_any_in_round, AnyPipeStands, IsGiven, IsPipeSettled, IsWorkedOff, HasSaid, PipeStands}
 use Rattle.kex_top.specs.PipelineLaws.{report-same}
 use Rattle.kex_top.specs.Pipelines.{StagesSay}
 use Rattle.kex_top.proofs.Schedules.{same-came, same-seats}
 
-or-not : (a : Bool) → (a || false) ≡ a
+pub or-not : (a : Bool) → (a || false) ≡ a
 or-not true = refl
 or-not false = refl
 
@@ -47,22 +48,24 @@ module _ {T : Type 0} (t : Ghosts T) where
 
   pub same-plans : (ps : List t.Plan) (pipe : AnyPipe T t) (h : List Event) (taken : List ℕ) → AnyPipeStands t ps pipe h taken → plans_of t pipe ≡ ps
   same-plans ps (Rounds pipe) h taken s = line-plans s.came ps pipe.seats.items s.seats pipe.output taken s.line
+  same-plans ps (Turns pipe) h taken s = line-plans s.came ps pipe.seats.items s.seats pipe.output taken s.line
   same-plans ps (Rings pipe counts) h taken s = ring-plans s.came [] ps pipe.seats.items s.seats pipe.output taken s.line
 
   pub is-closed : (ps : List t.Plan) (pipe : AnyPipe T t) (h : List Event) (taken : List ℕ) → AnyPipeStands t ps pipe h taken → is_any_in_round t pipe ≡ false
   is-closed ps (Rounds pipe) h taken s = s.closed
+  is-closed ps (Turns pipe) h taken s = s.closed
   is-closed ps (Rings pipe counts) h taken s = refl
 
   end-as-given : (ps : List t.Plan) (pipe : AnyPipe T t) (h : List Event) (taken : List ℕ) → AnyPipeStands t ps pipe h taken → piped.is_any_ended t pipe ≡ end_given h
   end-as-given ps (Rounds pipe) h taken s = s.same_end ∙ ap has_end (came-given t.gives s.after) ∙ end-items (bytes_given h) (end_given h)
+  end-as-given ps (Turns pipe) h taken s = s.same_end ∙ ap has_end (came-given t.gives s.after) ∙ end-items (bytes_given h) (end_given h)
   end-as-given ps (Rings pipe counts) h taken s = s.same_end ∙ ap has_end (came-given t.gives s.after) ∙ end-items (bytes_given h) (end_given h)
 
-  -- a stage more that wasn't fed
-  pub unfed-more : (xs : List T) (x : T) → ((k : ℕ) (d : T) → k < length xs → t.stands (get_or xs k d) None) → t.stands x None → (k : ℕ) (d : T) → k < length (xs ++ x ∷ []) → t.stands (get_or (xs ++ x ∷ []) k d) None
-  unfed-more [] x unfed h zero d lt = h
-  unfed-more [] x unfed h (suc k) d lt = absurd (omega arith)
-  unfed-more (y ∷ xs) x unfed h zero d lt = unfed zero d (omega arith)
-  unfed-more (y ∷ xs) x unfed h (suc k) d lt = unfed-more xs x (λ n c less. unfed (suc n) c (omega arith)) h k d (omega arith)
+  -- a pipe of some stages that has come by nothing
+  pub fresh-pipe : (ps : List t.Plan) (pipe : AnyPipe T t) → 0 < length ps → AnyPipeStands t ps pipe [] [] → PipeStands t pipe None
+  fresh-pipe ps pipe some s =
+      let same = same-plans ps pipe [] [] s in
+      (subst (λ z. 0 < length z) (sym same) some, subst (λ z. AnyPipeStands t z pipe [] []) (sym same) s)
 
   -- what the pipe was given, by what it was fed
   pub record Standing (pipe : AnyPipe T t) (h : History) : Type 0 where
@@ -148,3 +151,12 @@ bytes-same h = bytes_given-append h (give_end ∷ []) ∙ append-nil (bytes_give
 
 pub end-now : (h : List Event) → end_given (h ++ give_end ∷ []) ≡ true
 end-now h = end_given-append h (give_end ∷ []) ∙ or-yes (end_given h)
+
+-- all of some bytes were given
+pub all-given : (stands : List Event → Type 0) (h : List Event) (bytes : List ℕ) → stands (h ++ give bytes ∷ []) → IsGiven stands (take (length bytes) bytes) h
+all-given stands h bytes s = record {
+  events = h ++ give bytes ∷ [];
+  bytes = bytes-more h bytes ∙ ap (λ z. bytes_given h ++ z) (sym (take_all (length bytes) bytes (omega arith)));
+  same_end = end-open h bytes;
+  stands_for = s;
+}

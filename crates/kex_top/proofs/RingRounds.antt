@@ -1,7 +1,6 @@
 -- What is given over rings is worked off by some rounds, and then by settling.
-use Rattle.std.proofs.Common.{ℕ, take, List, [], ◌∷◌, ◌++◌, length, refl, sym, ap, ◌∙◌, arith, append-nil}
-use Rattle.std.proofs.lemmas.List.{take_all}
-use Rattle.kex_model.specs.Schedules.{Event, give}
+use Rattle.std.proofs.Common.{ℕ, List, [], ◌++◌, refl, sym, ◌∙◌, append-nil}
+use Rattle.kex_model.specs.Schedules.{Event}
 use Rattle.kex_pipe.specs.Events.{bytes_given}
 use Rattle.kex_pipe.specs.declared.turn.Turn.{Ghosts}
 use Rattle.kex_rings.specs.Lines.{turns_from}
@@ -9,20 +8,11 @@ use Rattle.kex_rings.specs.Standing.{RingsStand, WorksOff}
 use Rattle.kex_rings.specs.declared.pipe.RingPipe.{RingPipe}
 use Rattle.kex_rings.proofs.StageTurns.{same-bytes, same-end}
 use Rattle.kex_top.specs.Piped.{IsGiven, IsWorkedOff}
-use Rattle.kex_top.proofs.PipeAnswers.{bytes-more, end-open}
 
 module _ {T : Type 0} (t : Ghosts T) (ps : List t.Plan) (h : List Event) (taken : List ℕ) where
   -- the pipe stands for a schedule that gave these bytes more
   abbrev pub Given : RingPipe T t → List ℕ → Type 0
   Given pipe more = IsGiven (λ k. RingsStand t ps pipe k taken) more h
-
-  pub given-all : (pipe : RingPipe T t) (bytes : List ℕ) → RingsStand t ps pipe (h ++ give bytes ∷ []) taken → Given pipe (take (length bytes) bytes)
-  given-all pipe bytes s = record {
-    events = h ++ give bytes ∷ [];
-    bytes = bytes-more h bytes ∙ ap (λ z. bytes_given h ++ z) (sym (take_all (length bytes) bytes (omega arith)));
-    same_end = end-open h bytes;
-    stands_for = s;
-  }
 
   pub none-given : (pipe : RingPipe T t) → RingsStand t ps pipe h taken → Given pipe []
   none-given pipe s = record { events = h; bytes = sym (append-nil (bytes_given h)); same_end = refl; stands_for = s }

@@ -12,11 +12,7 @@ use Rattle.kex_pipe.specs.declared.pipe.Pipe.{Pipe}
 use Rattle.kex_pipe.specs.declared.turn.Turn.{Ghosts}
 use Rattle.kex_pipe.proofs.Schedule.{bytes_given-append, end_given-append}
 use Rattle.kex_top.specs.Piped.{IsGiven, IsWorkedOff}
-use Rattle.kex_top.proofs.PipeAnswers.{bytes-more, end-open}
-
-or-not : (a : Bool) → (a || false) ≡ a
-or-not true = refl
-or-not false = refl
+use Rattle.kex_top.proofs.PipeAnswers.{bytes-more, end-open, or-not}
 
 take-nil : (m : ℕ) → let none : List ℕ = [] in take m none ≡ []
 take-nil zero = refl

@@ -1,4 +1,4 @@
-// A pipe of a program's stages, which work by rounds or over rings.
+// A pipe of a program's stages, which work by rounds, in turns or over rings.
 ghost use Rattle.std.specs.Prelude.{◌≡◌, ◌<◌, ◌++◌, ◌∷◌, [], List, ℕ, Some, None, All, IfOk, OnOk};
 ghost use Rattle.std.specs.Prelude.{false, take, map, vec_len};
 ghost use Rattle.kex_model.specs.Answers.{Pipeline};
@@ -6,11 +6,13 @@ ghost use Rattle.kex_model.specs.Schedules.{Event, give_end};
 ghost use Rattle.kex_pipe.specs.Events.{bytes_given, end_given};
 ghost use Rattle.kex_pipe.specs.Reports.{report_as};
 ghost use Rattle.kex_top.specs.Fronts.{IsFront};
-ghost use Rattle.kex_top.specs.Piped.{IsGiven, IsPipeSettled, IsWorkedOff, AnyPipeStands};
-ghost use Rattle.kex_top.specs.Piped.{any_in_hand, is_any_ended, is_any_in_round, plans_of};
+ghost use Rattle.kex_top.specs.Piped.{AnyPipeStands, IsGiven, IsPipeSettled, IsWorkedOff};
+ghost use Rattle.kex_top.specs.Piped.{PipeStands, any_in_hand, is_any_ended, is_any_in_round};
+ghost use Rattle.kex_top.specs.Piped.{plans_of};
 
+use crate::pipeline::Limited;
 use crate::rounds::Pace;
-use crate::{rings, rounds};
+use crate::{rings, rounds, turns};
 use kex_code::memory::Memory;
 use kex_pipe::pipe::{Pipe, PipeFault};
 use kex_pipe::report::Rejected;
@@ -25,12 +27,15 @@ use std::thread::Threads;
 pub(crate) enum AnyPipe<T: Turn> {
     /// The stages work by rounds.
     Rounds(Pipe<T>),
+    /// The stages take turns in their order, and each stage's desks work on parts of what it is to
+    /// read.
+    Turns(Pipe<T>),
     /// Rings join the stages. How much each took in the last round is kept beside.
     Rings { pipe: RingPipe<T>, counts: Vec<u64> },
 }
 
 impl<T: Turn + Drop> AnyPipe<T> {
-    /// At least one stage, none of which was fed before.
+    /// At least one stage, none of which was fed before. They work by rounds, or over rings.
     pub(crate) fn new(
         alloc: Global,
         stages: Vec<T>,
@@ -41,6 +46,7 @@ impl<T: Turn + Drop> AnyPipe<T> {
         ensures stands { IfOk result (λ pipe.
             AnyPipeStands T.Turn (map T.plan stages.items) pipe [] []) }
         ensures plans { IfOk result (λ pipe. plans_of T.Turn pipe ≡ map T.plan stages.items) }
+        ensures fresh { IfOk result (λ pipe. PipeStands T.Turn pipe None) }
     {
         match rings {
             None => Ok(AnyPipe::Rounds(Pipe::new(alloc, stages)?)),
@@ -49,6 +55,18 @@ impl<T: Turn + Drop> AnyPipe<T> {
                 counts: Vec::new(alloc),
             }),
         }
+    }
+
+    /// The same, of stages that take turns.
+    pub(crate) fn in_turns(alloc: Global, stages: Vec<T>) -> Result<AnyPipe<T>, Memory>
+        requires some { 0 < vec_len stages }
+        requires unfed { All (λ s. T.stands s None) stages.items }
+        ensures stands { IfOk result (λ pipe.
+            AnyPipeStands T.Turn (map T.plan stages.items) pipe [] []) }
+        ensures plans { IfOk result (λ pipe. plans_of T.Turn pipe ≡ map T.plan stages.items) }
+        ensures fresh { IfOk result (λ pipe. PipeStands T.Turn pipe None) }
+    {
+        Ok(AnyPipe::Turns(Pipe::new(alloc, stages)?))
     }
 
     /// The input ends here.
@@ -62,6 +80,7 @@ impl<T: Turn + Drop> AnyPipe<T> {
     {
         match self {
             AnyPipe::Rounds(pipe) => pipe.give_end(),
+            AnyPipe::Turns(pipe) => pipe.give_end(),
             AnyPipe::Rings { pipe, .. } => pipe.give_end(),
         }
     }
@@ -76,6 +95,7 @@ impl<T: Turn + Drop> AnyPipe<T> {
     {
         match self {
             AnyPipe::Rounds(pipe) => pipe.take_output_into(out),
+            AnyPipe::Turns(pipe) => pipe.take_output_into(out),
             AnyPipe::Rings { pipe, .. } => pipe.take_output_into(out),
         }
     }
@@ -89,13 +109,14 @@ impl<T: Turn + Drop> AnyPipe<T> {
     {
         match self {
             AnyPipe::Rounds(pipe) => pipe.report(),
+            AnyPipe::Turns(pipe) => pipe.report(),
             AnyPipe::Rings { pipe, .. } => pipe.report(),
         }
     }
 }
 
-/// Gives bytes at this pace, and tells how many were given: over rings all of them.
-pub(crate) fn give_front<R: Threads + Sync, T: Turn + Drop + Send, G: Gate + Sync>(
+/// Gives bytes at this pace, and tells how many were given: in turns and over rings all of them.
+pub(crate) fn give_front<R: Threads + Sync, T: Limited + Drop + Send, G: Gate + Sync>(
     rt: &R,
     pipe: &mut AnyPipe<T>,
     gate: &G,
@@ -112,12 +133,13 @@ pub(crate) fn give_front<R: Threads + Sync, T: Turn + Drop + Send, G: Gate + Syn
 {
     match pipe {
         AnyPipe::Rounds(pipe) => rounds::give_front(rt, pipe, gate, pace, bytes),
+        AnyPipe::Turns(pipe) => turns::give_all(pipe, bytes),
         AnyPipe::Rings { pipe, .. } => rings::give_all(pipe, bytes),
     }
 }
 
 /// Works off all that waits.
-pub(crate) fn work_off<R: Threads + Sync, T: Turn + Drop + Send, G: Gate + Sync>(
+pub(crate) fn work_off<R: Threads + Sync, T: Limited + Drop + Send, G: Gate + Sync>(
     rt: &R,
     pipe: &mut AnyPipe<T>,
     gate: &G,
@@ -130,6 +152,7 @@ pub(crate) fn work_off<R: Threads + Sync, T: Turn + Drop + Send, G: Gate + Sync>
 {
     match pipe {
         AnyPipe::Rounds(pipe) => rounds::work_off(rt, pipe, gate),
+        AnyPipe::Turns(pipe) => turns::work_off(rt, pipe, gate),
         AnyPipe::Rings { pipe, counts } => rings::work_off(rt, pipe, gate, counts),
     }
 }

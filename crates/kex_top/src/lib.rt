@@ -14,6 +14,7 @@ mod limits;
 mod lines;
 mod pass;
 mod pipeline;
+mod plain;
 mod program;
 mod refused;
 mod rings;
@@ -26,6 +27,8 @@ mod stream;
 mod taking;
 mod tally;
 mod trial;
+mod turns;
+mod workers;
 
 pub use call::kex;
 pub use kex_pipe::report::Rejected;

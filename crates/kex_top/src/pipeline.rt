@@ -10,7 +10,11 @@ ghost use Rattle.kex_top.specs.History.{IsFateOfStages, FeedsStages};
 ghost use Rattle.kex_top.specs.Piped.{PipeSays, PipeStands, plans_of};
 
 use crate::any_pipe::{AnyPipe, give_front, work_off};
+use crate::plain::{NoDesk, Plain};
 use crate::rounds::Pace;
+use kex_chunk_stage::chunk_stage::ChunkStage;
+use kex_chunk_stage::stage_desk::StageDesk;
+use kex_pipe::parted::{PartDesk, Parted};
 use kex_pipe::pipe::PipeFault;
 use kex_pipe::report::Rejected;
 use kex_pipe::turn::{Fate, Turn};
@@ -19,7 +23,10 @@ use kex_stage::stage::Stage;
 use std::thread::Threads;
 
 /// A stage with a limit to its input, past which it stops.
-pub(crate) trait Limited: Turn {
+pub(crate) trait Limited: Parted<<Self as Limited>::Desk> {
+    /// What works on parts of what it is to read, if anything does.
+    type Desk: PartDesk + Drop + Send;
+
     ghost limit: { Self → ℕ };
 
     /// Stages that work by the same have the same limit.
@@ -29,13 +36,27 @@ pub(crate) trait Limited: Turn {
         → limit s < length w → IsSome a.stop };
 }
 
-impl<'p> Limited for Stage<'p> {
-    ghost limit = { λ s. (⟦<Stage<'p> as Turn>⟧.plan s).limit };
+impl<'p> Limited for Plain<Stage<'p>> {
+    type Desk = NoDesk;
+
+    ghost limit = { λ s. (⟦<Stage<'p> as Turn>⟧.plan s.stage).limit };
 
     ghost by_plan = { λ s t e. ap (λ p. p.limit) e };
 
-    ghost past_limit = { λ s w a g lt. (answering (⟦<Stage<'p> as Turn>⟧.plan s).machine).past
-        (⟦<Stage<'p> as Turn>⟧.plan s).limit w false a g lt };
+    ghost past_limit = { λ s w a g lt.
+        (answering (⟦<Stage<'p> as Turn>⟧.plan s.stage).machine).past
+        (⟦<Stage<'p> as Turn>⟧.plan s.stage).limit w false a g lt };
+}
+
+impl<'p> Limited for ChunkStage<'p> {
+    type Desk = StageDesk<'p>;
+
+    ghost limit = { λ s. (⟦<ChunkStage<'p> as Turn>⟧.plan s).limit };
+
+    ghost by_plan = { λ s t e. ap (λ p. p.limit) e };
+
+    ghost past_limit = { λ s w a g lt. (answering (⟦<ChunkStage<'p> as Turn>⟧.plan s).machine).past
+        (⟦<ChunkStage<'p> as Turn>⟧.plan s).limit w false a g lt };
 }
 
 fn fate_of(report: Option<Rejected>) -> Fate

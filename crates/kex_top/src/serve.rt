@@ -21,12 +21,14 @@ ghost use Rattle.kex_top.specs.Starts.{status_of_answer};
 use crate::any_pipe::AnyPipe;
 use crate::limits::limits_of;
 use crate::pipeline::Limited;
+use crate::plain::Plain;
 use crate::program::plans_of;
 use crate::rounds::Pace;
 use crate::single::{act, code, test};
 use crate::start::StartError;
 use crate::status::Status;
 use crate::stream::run;
+use crate::workers::run_shared;
 use kex_code::memory::Memory;
 use kex_compile::compiled::Compiled;
 use kex_pipe::turn::Turn;
@@ -37,25 +39,36 @@ use kex_words::{Mode, Rings, RunLimits};
 use std::alloc::Global;
 use std::thread::Threads;
 
+// The stage with this plan, which takes at most so many bytes.
+fn stage_of<'p>(alloc: Global, plan: &'p Plan, max_input: u64) -> Result<Plain<Stage<'p>>, Memory>
+    ensures plan { IfOk result (λ s. ⟦<Plain<Stage<'p>> as Turn>⟧.plan s
+        ≡ record { machine = teller_of plan.now; limit = max_input }) }
+    ensures unfed { IfOk result (λ s. ⟦<Plain<Stage<'p>> as Turn>⟧.stands s None) }
+{
+    let stage = Stage::new(alloc, plan, max_input)?;
+    Ok(Plain { alloc, stage })
+}
+
 /// The stages with these plans, each of which takes at most so many bytes.
 pub(crate) fn stages_of<'p>(
     alloc: Global,
     plans: &'p [Plan],
     max_input: u64,
-) -> Result<Vec<Stage<'p>>, Memory>
+) -> Result<Vec<Plain<Stage<'p>>>, Memory>
     ensures count { IfOk result (λ stages. vec_len stages ≡ length plans.now) }
-    ensures plans { IfOk result (λ stages. map ⟦<Stage<'p> as Turn>⟧.plan stages.items
+    ensures plans { IfOk result (λ stages. map ⟦<Plain<Stage<'p>> as Turn>⟧.plan stages.items
         ≡ stage_plans max_input (map teller_of plans.now)) }
     ensures unfed { IfOk result (λ stages.
-        All (λ s. ⟦<Stage<'p> as Turn>⟧.stands s None) stages.items) }
+        All (λ s. ⟦<Plain<Stage<'p>> as Turn>⟧.stands s None) stages.items) }
     ensures answers { IfOk result (λ stages.
-        AllAnswer ⟦<Stage<'p> as Turn>⟧.gives (map ⟦<Stage<'p> as Turn>⟧.plan stages.items)) }
+        AllAnswer ⟦<Plain<Stage<'p>> as Turn>⟧.gives
+        (map ⟦<Plain<Stage<'p>> as Turn>⟧.plan stages.items)) }
 {
     let mut stages = Vec::new(alloc);
     'plans: for plan in plans {
         let _nodes = plan.machine().nodes();
         let _table = plan.table();
-        let stage = Stage::new(alloc, plan, max_input)?;
+        let stage = stage_of(alloc, plan, max_input)?;
         stages.push(stage)?;
     }
     Ok(stages)
@@ -67,13 +80,13 @@ pub(crate) fn pipe_of<'p>(
     plans: &'p [Plan],
     max_input: u64,
     rings: Option<Rings>,
-) -> Result<AnyPipe<Stage<'p>>, Memory>
+) -> Result<AnyPipe<Plain<Stage<'p>>>, Memory>
     requires { 0 < length plans.now }
-    ensures plans { IfOk result (λ pipe. plans_of ⟦<Stage<'p> as Turn>⟧ pipe
+    ensures plans { IfOk result (λ pipe. plans_of ⟦<Plain<Stage<'p>> as Turn>⟧ pipe
         ≡ stage_plans max_input (map teller_of plans.now)) }
-    ensures fresh { IfOk result (λ pipe. PipeStands ⟦<Stage<'p> as Turn>⟧ pipe None) }
-    ensures says { IfOk result (λ pipe.
-        AlwaysSays (PipeSays ⟦<Stage<'p> as Turn>⟧ (plans_of ⟦<Stage<'p> as Turn>⟧ pipe))) }
+    ensures fresh { IfOk result (λ pipe. PipeStands ⟦<Plain<Stage<'p>> as Turn>⟧ pipe None) }
+    ensures says { IfOk result (λ pipe. AlwaysSays (PipeSays ⟦<Plain<Stage<'p>> as Turn>⟧
+        (plans_of ⟦<Plain<Stage<'p>> as Turn>⟧ pipe))) }
 {
     let stages = stages_of(alloc, plans, max_input)?;
     let pipe = AnyPipe::new(alloc, stages, rings)?;
@@ -115,6 +128,36 @@ pub(crate) fn run_stages<R: Threads + Sync, G: Gate + Sync, S: Source, K: Sink>(
     )
 }
 
+// Runs the stages with these plans: with workers where there are several, and no rings.
+fn run_plans<R: Threads + Sync, G: Gate + Sync, S: Source, K: Sink>(
+    rt: &R,
+    gate: &G,
+    alloc: Global,
+    plans: &[Plan],
+    limits: RunLimits,
+    input: &mut S,
+    output: &mut K,
+) -> Result<Status, Memory>
+    requires some { 0 < length plans.now }
+    requires tables { All (λ p. p.table ≡ None → ⊥) plans.now }
+    ensures ran { IfOk result (λ status.
+        Ran (NodesSay (stage_plans limits.max_input (map teller_of plans.now)))
+        (last_given limits.block (S.reads input.new))
+        (change_of S.rest S.faults input.old input.new)
+        (change_of K.held K.faults output.old output.new) status) }
+    ensures blocks { IfOk result (λ status.
+        ReadsBlocks limits.block (S.reads input.old) (S.reads input.new) status) }
+    ensures closes { IfOk result (λ status.
+        Closes (K.ending output.old) (K.ending output.new) status) }
+    ensures left { OnErr result ((input.new ≡ input.old) × (output.new ≡ output.old)) }
+{
+    if limits.workers > 1 && limits.rings.is_none() {
+        run_shared(rt, gate, alloc, plans, limits, input, output)
+    } else {
+        run_stages(rt, gate, alloc, plans, limits, input, output)
+    }
+}
+
 // Writes for the input what is asked for. A test doesn't call the output.
 fn serve<R: Threads + Sync, G: Gate + Sync, S: Source, K: Sink>(
     rt: &R,
@@ -129,6 +172,8 @@ fn serve<R: Threads + Sync, G: Gate + Sync, S: Source, K: Sink>(
     requires some { 0 < length compiled.now.stages }
     requires one { (limits_of (mode_of mode)).one_stage ≡ true → length compiled.now.stages ≡ 1 }
     requires told { compiled.now.telling ≡ asked_telling (limits_of (mode_of mode)) }
+    requires tables { (limits_of (mode_of mode)).tables ≡ true
+        → All (λ o. o ≡ None → ⊥) compiled.now.tables }
     ensures ran { IfOk result (λ status.
         Ran (MachinesSay (mode_of mode) limits.max_input compiled.now.stages)
         (last_given limits.block (S.reads input.new))
@@ -142,7 +187,7 @@ fn serve<R: Threads + Sync, G: Gate + Sync, S: Source, K: Sink>(
     ensures untouched { is_writing (mode_of mode) ≡ false → output.new ≡ output.old }
 {
     match mode {
-        Mode::Run { .. } => run_stages(rt, gate, alloc, compiled.stages(), limits, input, output),
+        Mode::Run { .. } => run_plans(rt, gate, alloc, compiled.stages(), limits, input, output),
         Mode::Code => code(
             rt,
             gate,

@@ -15,6 +15,7 @@ ghost use Rattle.kex_top.specs.Run.{IsAsBefore, Ran};
 
 use crate::any_pipe::AnyPipe;
 use crate::pipeline::Limited;
+use crate::plain::{NoDesk, Plain};
 use crate::rounds::Pace;
 use crate::status::Status;
 use crate::stream::run;
@@ -27,31 +28,37 @@ use kex_words::RunLimits;
 use std::alloc::Global;
 use std::thread::Threads;
 
-impl<'m> Limited for Coder<'m> {
-    ghost limit = { λ s. (⟦<Coder<'m> as Turn>⟧.plan s).limit };
+impl<'m> Limited for Plain<Coder<'m>> {
+    type Desk = NoDesk;
+
+    ghost limit = { λ s. (⟦<Coder<'m> as Turn>⟧.plan s.stage).limit };
 
     ghost by_plan = { λ s t e. ap (λ p. p.limit) e };
 
-    ghost past_limit = { λ s w a g lt. code.past (⟦<Coder<'m> as Turn>⟧.plan s).machine
-        (⟦<Coder<'m> as Turn>⟧.plan s).limit w a g lt };
+    ghost past_limit = { λ s w a g lt. code.past (⟦<Coder<'m> as Turn>⟧.plan s.stage).machine
+        (⟦<Coder<'m> as Turn>⟧.plan s.stage).limit w a g lt };
 }
 
-impl<'m> Limited for Player<'m> {
-    ghost limit = { λ s. (⟦<Player<'m> as Turn>⟧.plan s).limit };
+impl<'m> Limited for Plain<Player<'m>> {
+    type Desk = NoDesk;
+
+    ghost limit = { λ s. (⟦<Player<'m> as Turn>⟧.plan s.stage).limit };
 
     ghost by_plan = { λ s t e. ap (λ p. p.limit) e };
 
-    ghost past_limit = { λ s w a g lt. act.past (⟦<Player<'m> as Turn>⟧.plan s).machine
-        (⟦<Player<'m> as Turn>⟧.plan s).limit w a g lt };
+    ghost past_limit = { λ s w a g lt. act.past (⟦<Player<'m> as Turn>⟧.plan s.stage).machine
+        (⟦<Player<'m> as Turn>⟧.plan s.stage).limit w a g lt };
 }
 
-impl<'m> Limited for Tester<'m> {
-    ghost limit = { λ s. (⟦<Tester<'m> as Turn>⟧.plan s).limit };
+impl<'m> Limited for Plain<Tester<'m>> {
+    type Desk = NoDesk;
+
+    ghost limit = { λ s. (⟦<Tester<'m> as Turn>⟧.plan s.stage).limit };
 
     ghost by_plan = { λ s t e. ap (λ p. p.limit) e };
 
-    ghost past_limit = { λ s w a g lt. test.past (⟦<Tester<'m> as Turn>⟧.plan s).machine
-        (⟦<Tester<'m> as Turn>⟧.plan s).limit w a g lt };
+    ghost past_limit = { λ s w a g lt. test.past (⟦<Tester<'m> as Turn>⟧.plan s.stage).machine
+        (⟦<Tester<'m> as Turn>⟧.plan s.stage).limit w a g lt };
 }
 
 // Runs one stage.
@@ -108,7 +115,11 @@ pub(crate) fn code<R: Threads + Sync, G: Gate + Sync, S: Source, K: Sink>(
 {
     let _nodes = machine.nodes();
     let coder = Coder::new(alloc, machine, limits.max_input)?;
-    run_one(rt, gate, alloc, coder, Pace::Parts, limits, input, output)
+    let stage = Plain {
+        alloc,
+        stage: coder,
+    };
+    run_one(rt, gate, alloc, stage, Pace::Parts, limits, input, output)
 }
 
 /// Writes what the input means as the text of a code.
@@ -133,7 +144,11 @@ pub(crate) fn act<R: Threads + Sync, G: Gate + Sync, S: Source, K: Sink>(
     ensures left { OnErr result ((input.new ≡ input.old) × (output.new ≡ output.old)) }
 {
     let player = Player::new(alloc, machine, limits.max_input)?;
-    run_one(rt, gate, alloc, player, Pace::Blocks, limits, input, output)
+    let stage = Plain {
+        alloc,
+        stage: player,
+    };
+    run_one(rt, gate, alloc, stage, Pace::Blocks, limits, input, output)
 }
 
 /// Tells whether the input has a parse, and writes nothing.
@@ -154,11 +169,15 @@ pub(crate) fn test<R: Threads + Sync, G: Gate + Sync, S: Source>(
     ensures left { OnErr result (input.new ≡ input.old) }
 {
     let tester = Tester::new(alloc, machine, limits.max_input)?;
+    let stage = Plain {
+        alloc,
+        stage: tester,
+    };
     run_one(
         rt,
         gate,
         alloc,
-        tester,
+        stage,
         Pace::Blocks,
         limits,
         input,

@@ -1,8 +1,9 @@
 // The trial: a program of its own on lines of its own.
 ghost use Rattle.std.specs.Prelude.{◌≡◌, ◌≤◌, ◌<◌, ◌+◌, ◌^◌, ◌++◌, [], List, ℕ, Option, None, true};
-ghost use Rattle.std.specs.Prelude.{false, IfOk, OnOk, drop, length};
+ghost use Rattle.std.specs.Prelude.{false, All, IfOk, OnOk, drop, length, map};
 ghost use Rattle.kex_ports.specs.Named.{Texts};
 ghost use Rattle.kex_ports.specs.Reads.{Reads};
+ghost use Rattle.kex_stage.specs.Plans.{teller_of};
 ghost use Rattle.kex_stage.specs.declared.plan.Telling.TheVariants as telling;
 ghost use Rattle.kex_words.specs.Form.{most_input};
 ghost use Rattle.kex_words.specs.Gains.{StreamChange, change_of};
@@ -14,7 +15,7 @@ ghost use Rattle.kex_top.specs.History.{History, bytes_passed, is_history_ended}
 ghost use Rattle.kex_top.specs.Kex.{CommandAnswers};
 ghost use Rattle.kex_top.specs.Outside.{Closes};
 ghost use Rattle.kex_top.specs.Piped.{PipeSays, PipeStands, plans_of};
-ghost use Rattle.kex_top.specs.Pipelines.{NodesSay, agreed_plans};
+ghost use Rattle.kex_top.specs.Pipelines.{NodesSay, agreed_plans, stage_plans};
 ghost use Rattle.kex_top.specs.Run.{IsAsBefore};
 ghost use Rattle.kex_top.specs.Starts.{status_of_answer};
 ghost use Rattle.kex_top.specs.Tallies.{Counts, HasWaiting, SumsUp};
@@ -30,9 +31,11 @@ use crate::serve::pipe_of;
 use crate::start::StartError;
 use crate::status::Status;
 use crate::tally::Tally;
+use crate::workers::chunk_pipe_of;
 use kex_compile::compiled::Compiled;
 use kex_pipe::pipe::PipeFault;
 use kex_ports::{Failed, Gate, Sink};
+use kex_stage::plan::Plan;
 use kex_words::{TrialCounts, TrialLines, write_trial_counts};
 use std::alloc::Global;
 use std::thread::Threads;
@@ -151,6 +154,28 @@ fn give_lines<R: Threads + Sync, T: Limited + Drop + Send, G: Gate + Sync>(
     give_end(rt, gate, pipe, &mut out, tally)
 }
 
+// Gives the lines to stages with these plans: with workers where there are several, and no rings.
+fn run_lines<R: Threads + Sync, G: Gate + Sync>(
+    rt: &R,
+    gate: &G,
+    alloc: Global,
+    plans: &[Plan],
+    lines: TrialLines,
+) -> Result<Tally, PipeFault>
+    requires some { 0 < length plans.now }
+    requires tables { All (λ p. p.table ≡ None → ⊥) plans.now }
+    ensures { IfOk result (λ tally.
+        SumsUp (NodesSay (stage_plans most_input (map teller_of plans.now)))
+        (made_lines lines.count) tally) }
+{
+    if lines.workers > 1 && lines.rings.is_none() {
+        let mut pipe = chunk_pipe_of(alloc, plans, MOST_INPUT, lines.workers)?;
+        return give_lines(rt, gate, alloc, &mut pipe, lines);
+    }
+    let mut pipe = pipe_of(alloc, plans, MOST_INPUT, lines.rings)?;
+    give_lines(rt, gate, alloc, &mut pipe, lines)
+}
+
 // Runs the plans on the lines, and sums up what they write.
 fn sum_up<R: Threads + Sync, G: Gate + Sync>(
     rt: &R,
@@ -161,12 +186,12 @@ fn sum_up<R: Threads + Sync, G: Gate + Sync>(
 ) -> Result<TrialCounts, PipeFault>
     requires some { 0 < length compiled.now.stages }
     requires agreed { compiled.now.telling ≡ telling.Agreed }
+    requires tables { All (λ o. o ≡ None → ⊥) compiled.now.tables }
     ensures { IfOk result (λ counts.
         AreTrialCounts (NodesSay (agreed_plans most_input compiled.now.stages))
         lines.count counts) }
 {
-    let mut pipe = pipe_of(alloc, compiled.stages(), MOST_INPUT, lines.rings)?;
-    let tally = give_lines(rt, gate, alloc, &mut pipe, lines)?;
+    let tally = run_lines(rt, gate, alloc, compiled.stages(), lines)?;
     Ok(TrialCounts {
         lines: lines.count,
         made: tally.made,

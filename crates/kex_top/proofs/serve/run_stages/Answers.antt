@@ -5,11 +5,9 @@ use Rattle.kex_ports.specs.Reads.{last_given}
 use Rattle.kex_words.specs.Gains.{change}
 use Rattle.kex_stage.specs.Plans.{teller_of}
 use Rattle.kex_stage.specs.Stages.{StagePlan}
-use Rattle.kex_top.specs.Piped.{stages_of}
 use Rattle.kex_top.specs.Pipelines.{NodesSay, first_limit}
 use Rattle.kex_top.specs.Run.{Ran}
-use Rattle.kex_stage.specs.contracts.stage.StageTurn.TheImpl.{ghosts}
-use Rattle.kex_top.proofs.CallAnswers.{first-limit, first-of}
+use Rattle.kex_top.proofs.CallAnswers.{first-limit, pipe-limit}
 use Rattle.kex_top.proofs.serve.run_stages.Goals as goal
 
 pub run-requires-clause-limit : goal.run-requires-clause-limit
@@ -18,7 +16,7 @@ run-requires-clause-limit g c = λ κs bounds.
     let tellers = map teller_of c.args.plans.now in
     let long = length-map c.args.plans.now teller_of in
     let some : 0 < length tellers = omega (arith, long, c.requires) in
-    first-of ghosts.plan limit (stages_of ghosts c.in_ok-pipe.pipe) ∙ ap (λ (ps : List StagePlan). first_limit limit ps) c.in_ok-pipe.ensures.plans ∙ first-limit c.args.limits.max_input tellers some
+    pipe-limit limit c.in_ok-pipe.pipe ∙ ap (λ (ps : List StagePlan). first_limit limit ps) c.in_ok-pipe.ensures.plans ∙ first-limit c.args.limits.max_input tellers some
 
 pub returns-clause-ran : goal.returns-clause-ran
 returns-clause-ran g c =

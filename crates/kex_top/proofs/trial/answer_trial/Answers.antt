@@ -1,8 +1,10 @@
-use Rattle.std.proofs.Common.{◌≡◌, ◌<◌, ◌∙◌, ap, length, refl, subst, sym, inl}
+use Rattle.std.specs.Prelude.{All}
+use Rattle.std.proofs.Common.{◌≡◌, ◌<◌, ◌∙◌, true, None, ap, length, refl, subst, sym, inl}
 use Rattle.std.proofs.lemmas.Result.{err_from_is_err_and}
 use Rattle.kex_compile.specs.Compiled.{IsCompiled, IsRefused}
 use Rattle.kex_compile.specs.Stages.{Plans, asked_telling}
 use Rattle.kex_compile.specs.declared.refusal.CompileRefusal.{CompileRefusal}
+use Rattle.kex_compile.specs.declared.limits.Limits.{Limits}
 use Rattle.kex_words.specs.Words.{room_of}
 use Rattle.kex_words.specs.Words.Asked.{ToTry}
 use Rattle.kex_ports.specs.Shelf.{present}
@@ -10,6 +12,7 @@ use Rattle.kex_top.specs.Modes.{limits_to_check}
 use Rattle.kex_top.specs.Refusals.{IsStartOf}
 use Rattle.kex_top.specs.Trials.{trial_text, usual_states}
 use Rattle.kex_top.proofs.CallAnswers.{some-machine, tried, unbegun, unplanned}
+use Rattle.kex_top.proofs.PlannedStages.{all-tabled}
 use Rattle.kex_top.proofs.trial.answer_trial.Goals as goal
 
 pub sum_up-requires-clause-some : goal.sum_up-requires-clause-some
@@ -17,6 +20,12 @@ sum_up-requires-clause-some g c = λ κs bounds. subst (λ (z : Plans). 0 < leng
 
 pub sum_up-requires-clause-agreed : goal.sum_up-requires-clause-agreed
 sum_up-requires-clause-agreed g c = λ κs bounds. ap (λ (z : Plans). z.telling) c.in_ok-short.ensures ∙ c.in_ok-plans.ensures.plans.plans_of.told ∙ ap asked_telling c.limits_to_check-asked.ensures
+
+pub sum_up-requires-clause-tables : goal.sum_up-requires-clause-tables
+sum_up-requires-clause-tables g c = λ κs bounds.
+    let limits = c.limits_to_check-asked.result in
+    let asked : limits.tables ≡ true = ap (λ (l : Limits). l.tables) c.limits_to_check-asked.ensures in
+    subst (λ (z : Plans). All (λ o. o ≡ None → ⊥) z.tables) (sym c.in_ok-short.ensures) (all-tabled limits c.in_ok-plans.plans.stages c.in_ok-plans.plans.tables asked c.in_ok-plans.ensures.plans.plans_of.tables)
 
 pub returns-in_err-plans-clause-answers : goal.returns-in_err-plans-clause-answers
 returns-in_err-plans-clause-answers g c = λ texts reads source left.

@@ -1,0 +1,16 @@
+use Rattle.std.proofs.Common.{◌≡◌, take, map, vec_len}
+use Rattle.std.specs.Prelude.{None, All}
+use Rattle.kex_code.specs.Codes.{IsAmong}
+use Rattle.kex_stage.specs.Plans.{teller_of}
+use Rattle.kex_stage.specs.Stages.{StagePlan}
+use Rattle.kex_chunk_stage.specs.contracts.chunk_stage.ChunkStageTurn.TheImpl.{ghosts}
+use Rattle.kex_top.specs.Pipelines.{AlwaysAnswers, stage_plans}
+use Rattle.kex_top.proofs.workers.chunk_stages_of.Given as goal
+
+abbrev pub invariant-plans : goal.invariant-plans
+invariant-plans l = record {
+  plans : map ghosts.plan l.stages.items ≡ stage_plans l.max_input (map teller_of (take l.plan-index l.plans));
+  unfed : All (λ s. ghosts.stands s None) l.stages.items;
+  answers : (p : StagePlan) → IsAmong (map ghosts.plan l.stages.items) p → AlwaysAnswers ghosts.gives p;
+  long : vec_len l.stages ≡ l.plan-index;
+}
