@@ -14,11 +14,14 @@ use std::thread::Threads;
 /// So many bytes of output are worth a write before the block is worked off.
 const ENOUGH: usize = 65_536;
 
+/// So many bytes of output are written before more is given: what waits is worked off for that.
+const MUCH: usize = 1_048_576;
+
 /// When what the stages say goes out.
 #[derive(Clone, Copy, Debug, PartialEq, Eq)]
 pub(crate) enum Pace {
-    /// After a part of a block behind which nothing waits, where there is enough of it, and when
-    /// the block is worked off.
+    /// After a part of a block, where there is enough of it and nothing waits, or where there is
+    /// much of it; and when the block is worked off.
     Parts,
     /// When a block is worked off.
     Blocks,
@@ -35,9 +38,15 @@ fn part_for(stages: u32) -> usize
     if stages > 1 { 16_384 } else { 4_096 }
 }
 
+// Whether the output is to be written before more is given.
+fn is_due<T: Turn + Drop>(pipe: &Pipe<T>) -> bool {
+    let length = pipe.output_length();
+    length >= MUCH || (length >= ENOUGH && pipe.settled())
+}
+
 /// Gives bytes in parts, with a round after each: a stage works on one part while the next works on
 /// what came of the part before. Tells how many were given: all, or by parts as many as leave
-/// nothing waiting and enough output.
+/// nothing waiting and enough output, or much output.
 pub(crate) fn give_front<R: Threads + Sync, T: Turn + Drop + Send, G: Gate + Sync>(
     rt: &R,
     pipe: &mut Pipe<T>,
@@ -60,7 +69,7 @@ pub(crate) fn give_front<R: Threads + Sync, T: Turn + Drop + Send, G: Gate + Syn
         pipe.give(&bytes[given..end])?;
         round(rt, pipe, gate)?;
         given = end;
-        if pace == Pace::Parts && pipe.output_length() >= ENOUGH && pipe.settled() {
+        if pace == Pace::Parts && is_due(pipe) {
             return Ok(given);
         }
     }

@@ -36,8 +36,8 @@ parts-preserved g c =
       closed = c.round.ensures.closed;
     }
 
-pub returns-then-settled-clause-given : goal.returns-then-settled-clause-given
-returns-then-settled-clause-given g c = λ ps h taken s.
+pub returns-then-is_due-clause-given : goal.returns-then-is_due-clause-given
+returns-then-is_due-clause-given g c = λ ps h taken s.
     let t = g.T.Turn in
     let l = c.parts in
     let order = range_with_len 0 (stage_count t c.give.new.self) in
