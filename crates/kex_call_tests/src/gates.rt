@@ -79,7 +79,7 @@ fn gate_meets_chunks(rt: HostRuntime) -> Result<(), Fail> {
     let input = b"abx".to_vec(rt.alloc())?;
     let (status, output) = call(&rt, rt.alloc(), words, b"main := /ab*c/", input, &gate)?;
     assert_eq!(&rt; status.number(), 1);
-    assert!(&rt; output.as_slice() == b"ab");
+    assert!(&rt; output.as_slice() == b"ab".as_slice());
     assert!(&rt; gate.saw(1) && gate.saw(2));
     Ok(())
 }
