@@ -6,10 +6,12 @@ use std::alloc::{AllocError, Global};
 use std::test::Fail;
 
 // How many stages, places and states there are, or why there are none, where no more than a
-// million states are allowed. Offsets count from 0.
+// million states are allowed, and tables tell what is best only where there are any. Offsets count
+// from 0.
 fn answer(alloc: Global, text: &[u8], limits: &Limits) -> Result<String, AllocError> {
     let limits = Limits {
         states: limits.states.min(1_048_576),
+        optimal: limits.tables && limits.optimal,
         ..*limits
     };
     match compile(alloc, text, &limits) {

@@ -1,4 +1,4 @@
-use Rattle.std.proofs.Common.{◌++◌, ◌∷◌, [], ℕ, List, get_or, inl, inr, ⊎_elim, ap, subst, sym, take, ◌∙◌}
+use Rattle.std.proofs.Common.{◌++◌, ◌∷◌, [], ℕ, List, get_or, inl, inr, ⊎_elim, subst, sym, take}
 use Rattle.std.proofs.lemmas.List.{take_all, take_more}
 use Rattle.kex_machine.specs.Nodes.{Graph}
 use Rattle.kex_cover.specs.Searches.{AreWaiting}
