@@ -36,9 +36,8 @@ fn write_in_parts<R: Threads + Sync>(
     Ok((out, stage.taken()))
 }
 
-// Lines that are kept and swapped, quotes with line ends in them, a register that is read before
-// it is set in a line, a sum that never ends, and a byte that is refused; and how many parts of
-// 64 lines are taken over.
+// Lines that are kept and swapped, a sum that never ends, and a byte that is refused; and how many
+// parts of 64 lines are taken over.
 const TAKEN: &str = r#"
 main := /([a-z]*,[a-z]*\n)*/ => 4
 main := (a@/[a-z]*/ ~/,/ b@/[a-z]*/ !b "," !a /\n/)* => 4
