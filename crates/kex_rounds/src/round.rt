@@ -10,7 +10,7 @@ ghost use Rattle.kex_pipe.specs.Standing.{Stands, BeginsAnswer, HasWritten, in_h
 ghost use Rattle.kex_pipe.specs.Standing.{is_spent, is_in_round, stage_count};
 ghost use Rattle.kex_pipe.specs.Rounds.{Each, Works, LeftBy, turn_of};
 ghost use Rattle.kex_pipe.specs.Settling.{SettledTo};
-ghost use Rattle.kex_rounds.specs.Working.{AllWork, HasNoItems};
+ghost use Rattle.kex_rounds.specs.Working.{AllWork, HaveFew};
 
 use kex_code::memory::Memory;
 use kex_pipe::pipe::{Pipe, PipeFault};
@@ -33,17 +33,29 @@ fn work_one<T: Turn, G: Gate>(gate: &G, stage: u32, seat: &mut Seat<T>) -> Resul
     worked
 }
 
-// Whether none of the seats has anything to do.
-fn all_idle<T: Turn>(seats: &[Seat<T>]) -> bool
-    ensures { IsTrue result ↔ All (λ s. HasNoItems T.Turn s) seats.now }
+/// So many bytes are no work for a thread yet: to start one takes as long as a stage takes for some
+/// thousand bytes, and longer on a busy machine.
+const LITTLE: usize = 32_767;
+
+// Whether each of these stages had a turn, and no more than so many bytes wait before all of them.
+fn have_few<T: Turn>(seats: &[Seat<T>], most: usize) -> bool
+    ensures { IsTrue result ↔ HaveFew T.Turn most seats.now }
 {
-    seats
-        .iter()
-        .all(|seat| seat.staged.turned && seat.inbox.is_empty())
+    match seats.split_first() {
+        None => true,
+        Some((seat, rest)) => {
+            let bytes = seat.inbox.byte_count();
+            if !seat.staged.turned || most < bytes {
+                return false;
+            }
+            have_few(rest, most - bytes)
+        }
+    }
 }
 
-// The work of these seats, the first of which is that of this stage. Two halves that both have
-// something to do work at once; else a thread would cost more than it brings.
+// The work of these seats, the first of which is that of this stage. Two halves that both have much
+// to do work at once; else a thread would cost more than it brings. A first turn counts as much, so
+// in the first round of any run all stages work at once.
 fn work_all<R: Threads + Sync, T: Turn + Send, G: Gate + Sync>(
     rt: &R,
     gate: &G,
@@ -62,7 +74,7 @@ fn work_all<R: Threads + Sync, T: Turn + Send, G: Gate + Sync>(
     let half = seats.len() / 2;
     let next = first + half as u32;
     let (front, back) = seats.split_at_mut(half);
-    let (one, other) = if all_idle(front) || all_idle(back) {
+    let (one, other) = if have_few(front, LITTLE) || have_few(back, LITTLE) {
         (
             work_all(rt, gate, first, front),
             work_all(rt, gate, next, back),

@@ -27,15 +27,20 @@ pub(crate) enum Pace {
     Blocks,
 }
 
-// The most bytes that are given at once to so many stages. What a single one says of them is held,
-// so they are few; of several each takes a thread for them, so they are more.
-fn part_for(stages: u32) -> usize
+// How many of so many bytes are given at once to so many stages. What a single stage says of them
+// is held, so they are few. Of several stages each may take a thread for them. So they are more,
+// and of many bytes a sixteenth: few beside all that is given.
+fn part_for(stages: u32, bytes: usize) -> usize
     ensures some { 0 < result }
     ensures few { result ≤ 65536 }
     ensures one { stages ≤ 1 → result ≡ 4096 }
-    ensures several { 1 < stages → result ≡ 16384 }
+    ensures several { 1 < stages → 16384 ≤ result }
 {
-    if stages > 1 { 16_384 } else { 4_096 }
+    if stages > 1 {
+        (bytes / 16).max(16_384).min(65_536)
+    } else {
+        4_096
+    }
 }
 
 // Whether the output is to be written before more is given.
@@ -62,7 +67,7 @@ pub(crate) fn give_front<R: Threads + Sync, T: Turn + Drop + Send, G: Gate + Syn
         → IsGiven (λ k. Stands T.Turn ps pipe.new k taken) (take count bytes.now) h) }
     ensures closed { is_in_round T.Turn pipe.new ≡ false }
 {
-    let part = part_for(pipe.count());
+    let part = part_for(pipe.count(), bytes.len());
     let mut given = 0;
     'parts: while given < bytes.len() {
         let end = bytes.len().min(given + part);
