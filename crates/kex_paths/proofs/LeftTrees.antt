@@ -12,7 +12,7 @@ use Rattle.kex_sst.specs.Parts.{Change}
 use Rattle.kex_paths.specs.declared.forest.PathEdge.{PathEdge}
 use Rattle.kex_paths.specs.declared.walk.TreeToken.{TreeToken}
 use Rattle.kex_paths.specs.declared.walk.TreeToken.TheVariants as token
-use Rattle.kex_paths.specs.Forests.{Trees, no_trees, HasTrees, LeadsToTree}
+use Rattle.kex_paths.specs.Forests.{EdgeStock, Trees, no_trees, HasTrees, LeadsToTree}
 use Rattle.kex_paths.specs.KeptLeaves.{node_left, trees_beside, sides_of, trees_behind, restrict_each, parts_of, restrict_shape}
 use Rattle.kex_paths.specs.Nexts.{Outline, IsOfShape, IsChange, inner_of, places_of}
 use Rattle.kex_paths.specs.Spellings.{IsTreeSound, token_number, labels_in}
@@ -227,12 +227,12 @@ regs_fit t u ts e (a, is, change) =
     let long = ap length text ∙ tokens-length (shape_of a.tree) in
     omega (arith, long, labels-length a.tree, ap length change.1)
 
-pub none_left : (edges : List PathEdge) (r : Option PathEdge) (t : Option (Grown Part ℕ)) → r ≡ None → LeadsToTree edges r t → t ≡ None
+pub none_left : (edges : EdgeStock) (r : Option PathEdge) (t : Option (Grown Part ℕ)) → r ≡ None → LeadsToTree edges r t → t ≡ None
 none_left edges None None e l = refl
 none_left edges None (Some g) e l = absurd l
 none_left edges (Some x) t e l = let bad : ⊥ = cc in absurd bad
 
-module _ (keep : ℕ → Bool) (edges : List PathEdge) (root : PathEdge) where
+module _ (keep : ℕ → Bool) (edges : EdgeStock) (root : PathEdge) where
   abbrev pub LeadsWith : Outline → Change → Type 0
   LeadsWith t u = (a : Grown Part ℕ) → IsOfShape t (shape_of a.tree) → IsChange u a → LeadsToTree edges (Some root) (restrict_if keep (Some a))
 

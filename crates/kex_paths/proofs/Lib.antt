@@ -12,3 +12,4 @@ pub mod InOrder
 pub mod LastEdges
 pub mod Alikes
 pub mod LeftTrees
+pub mod EdgeLabels

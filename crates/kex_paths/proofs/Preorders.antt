@@ -11,7 +11,7 @@ use Rattle.kex_paths.specs.declared.forest.PathEdge.{PathEdge}
 use Rattle.kex_paths.specs.declared.forest.TreeNode.{TreeNode}
 use Rattle.kex_paths.specs.declared.walk.TreeToken.{TreeToken}
 use Rattle.kex_paths.specs.declared.walk.TreeToken.TheVariants as token
-use Rattle.kex_paths.specs.Forests.{IsTreeAt, at_tip, at_fork, LeadsToTree}
+use Rattle.kex_paths.specs.Forests.{EdgeStock, IsLabel, IsTreeAt, at_tip, at_fork, LeadsToTree}
 use Rattle.kex_paths.specs.Nexts.{inner_of, places_of}
 use Rattle.kex_paths.specs.Tasks.{tokens, tokens_from, IsTipBelow, EachTip}
 use Rattle.kex_paths.specs.Spellings.{key_of, token_number, is_inner, tip_in, edges_from, AreEdges, inner_in, places_in, labels_in, IsSpelled}
@@ -71,7 +71,7 @@ module _ (xs : List Bool) (ps : List ℕ) (whole : List TreeToken) where
   abbrev pub IsRead : List TreeToken → ℕ → ℕ → Type 0
   IsRead ts i k = ts ++ tokens_from (drop i xs) (drop k ps) ≡ whole
 
-module _ (edges : List PathEdge) where
+module _ (edges : EdgeStock) where
   -- a node is spelled, before trees that are still to be
   record Opened (k : TreeNode) (t : Labelled Part ℕ) (pending : List ℕ) (ts : List (Grown Part ℕ)) : Type 0 where
     pub left : List (Grown Part ℕ)
@@ -88,19 +88,19 @@ module _ (edges : List PathEdge) where
     places_are = refl;
     labels_are = refl;
   }
-  opened pending ts (at_fork {n = n} {m = m} {x = x} {y = y} {l = l} {r = r} e f sl sr) are = record {
+  opened pending ts (at_fork {n = n} {m = m} {x = x} {y = y} {u = u} {v = v} {l = l} {r = r} e f p q sl sr) are = record {
     left = first ∷ second ∷ ts;
-    are = subst (λ z. AreEdges edges z (first ∷ second ∷ ts)) (sym (reverse-append pending (m ∷ n ∷ []))) (record { edge = x; here = e; label = refl; stands = sl }, (record { edge = y; here = f; label = refl; stands = sr }, are));
+    are = subst (λ z. AreEdges edges z (first ∷ second ∷ ts)) (sym (reverse-append pending (m ∷ n ∷ []))) (record { edge = x; here = e; label = p; stands = sl }, (record { edge = y; here = f; label = q; stands = sr }, are));
     inner_is = ap (λ z. true ∷ z) (append_assoc (inner_of (shape_of l)) (inner_of (shape_of r)) (inner_in ts));
     places_are = append_assoc (places_of (shape_of l)) (places_of (shape_of r)) (places_in ts);
-    labels_are = ap (λ z. reverse x.label.items ∷ z) (append_assoc (labels_of l) (reverse y.label.items ∷ labels_of r) (labels_in ts));
+    labels_are = ap (λ z. u ∷ z) (append_assoc (labels_of l) (v ∷ labels_of r) (labels_in ts));
   }
     where
       first : Grown Part ℕ
-      first = record { label = reverse x.label.items; tree = l }
+      first = record { label = u; tree = l }
 
       second : Grown Part ℕ
-      second = record { label = reverse y.label.items; tree = r }
+      second = record { label = v; tree = r }
 
   pub spelled_start : (x : PathEdge) (a : Grown Part ℕ) → LeadsToTree edges (Some x) (Some a) → IsSpelled edges a (is_inner x.node ∷ []) (tip_in x.node) [] (edges_from x.node)
   spelled_start x a h =
@@ -118,22 +118,33 @@ module _ (edges : List PathEdge) where
     topped : (rest : List ℕ) (i : ℕ) (ts : List (Grown Part ℕ)) → AreEdges edges (reverse (rest ++ i ∷ [])) ts → AreEdges edges (i ∷ reverse rest) ts
     topped rest i ts h = subst (λ z. AreEdges edges z ts) (reverse-append rest (i ∷ [])) h
 
-    pub spelled_more : (rest : List ℕ) (i : ℕ) (x : PathEdge) → slice_get edges i ≡ Some x → IsSpelled edges a inner places labels (rest ++ i ∷ []) → IsSpelled edges a (inner ++ is_inner x.node ∷ []) (places ++ tip_in x.node) (labels ++ reverse x.label.items ∷ []) (rest ++ edges_from x.node)
-    spelled_more rest i x e h = by h.left (topped rest i h.left h.are) h.inner_is h.places_are h.labels_are
+    pub spelled_more : (rest : List ℕ) (i : ℕ) (x : PathEdge) (xs : List Part) → slice_get edges.all i ≡ Some x → ((ys : List Part) → IsLabel edges.cells x.label ys → xs ≡ ys) → IsSpelled edges a inner places labels (rest ++ i ∷ []) → IsSpelled edges a (inner ++ is_inner x.node ∷ []) (places ++ tip_in x.node) (labels ++ xs ∷ []) (rest ++ edges_from x.node)
+    spelled_more rest i x xs e is h = by h.left (topped rest i h.left h.are) h.inner_is h.places_are h.labels_are
       where
-        by : (ts : List (Grown Part ℕ)) → AreEdges edges (i ∷ reverse rest) ts → inner_of (shape_of a.tree) ≡ inner ++ inner_in ts → places_of (shape_of a.tree) ≡ places ++ places_in ts → labels_of a.tree ≡ labels ++ labels_in ts → IsSpelled edges a (inner ++ is_inner x.node ∷ []) (places ++ tip_in x.node) (labels ++ reverse x.label.items ∷ []) (rest ++ edges_from x.node)
+        by : (ts : List (Grown Part ℕ)) → AreEdges edges (i ∷ reverse rest) ts → inner_of (shape_of a.tree) ≡ inner ++ inner_in ts → places_of (shape_of a.tree) ≡ places ++ places_in ts → labels_of a.tree ≡ labels ++ labels_in ts → IsSpelled edges a (inner ++ is_inner x.node ∷ []) (places ++ tip_in x.node) (labels ++ xs ∷ []) (rest ++ edges_from x.node)
         by [] h f g k = absurd h
         by (t ∷ ts) (q, are) f g k =
             let same : q.edge ≡ x = one (sym q.here ∙ e) in
             let o = opened rest ts (subst (λ z. IsTreeAt edges z.node t.tree) same q.stands) are in
-            let label : reverse x.label.items ≡ t.label = ap (λ z. reverse z.label.items) (sym same) ∙ q.label in
+            let label : xs ≡ t.label = is t.label (subst (λ z. IsLabel edges.cells z.label t.label) same q.label) in
             record {
               left = o.left;
               are = o.are;
               inner_is = f ∙ ap (λ z. inner ++ z) o.inner_is ∙ sym (append_assoc inner (is_inner x.node ∷ []) (inner_in o.left));
               places_are = g ∙ ap (λ z. places ++ z) o.places_are ∙ sym (append_assoc places (tip_in x.node) (places_in o.left));
-              labels_are = k ∙ ap₂ (λ u v. labels ++ u ∷ v) (sym label) o.labels_are ∙ sym (append_assoc labels (reverse x.label.items ∷ []) (labels_in o.left));
+              labels_are = k ∙ ap₂ (λ u v. labels ++ u ∷ v) (sym label) o.labels_are ∙ sym (append_assoc labels (xs ∷ []) (labels_in o.left));
             }
+          where
+            one : {y : PathEdge} → Some y ≡ Some x → y ≡ x
+            one e = cc
+
+    -- the next edge has a label
+    pub next_label : (rest : List ℕ) (i : ℕ) (x : PathEdge) → slice_get edges.all i ≡ Some x → IsSpelled edges a inner places labels (rest ++ i ∷ []) → (xs : List Part) × IsLabel edges.cells x.label xs
+    next_label rest i x e h = by h.left (topped rest i h.left h.are)
+      where
+        by : (ts : List (Grown Part ℕ)) → AreEdges edges (i ∷ reverse rest) ts → (xs : List Part) × IsLabel edges.cells x.label xs
+        by [] h = absurd h
+        by (t ∷ ts) (q, are) = (t.label, subst (λ z. IsLabel edges.cells z.label t.label) (one (sym q.here ∙ e)) q.label)
           where
             one : {y : PathEdge} → Some y ≡ Some x → y ≡ x
             one e = cc
@@ -143,15 +154,15 @@ module _ (edges : List PathEdge) where
     some_inner (parts l r) = omega arith
 
     -- the number of the next edge is in range, and not all nodes are spelled
-    pub next_edge : (rest : List ℕ) (i : ℕ) → IsSpelled edges a inner places labels (rest ++ i ∷ []) → (i < length edges) × (length inner < size_of (shape_of a.tree))
+    pub next_edge : (rest : List ℕ) (i : ℕ) → IsSpelled edges a inner places labels (rest ++ i ∷ []) → (i < length edges.all) × (length inner < size_of (shape_of a.tree))
     next_edge rest i h = by h.left (topped rest i h.left h.are) h.inner_is
       where
-        by : (ts : List (Grown Part ℕ)) → AreEdges edges (i ∷ reverse rest) ts → inner_of (shape_of a.tree) ≡ inner ++ inner_in ts → (i < length edges) × (length inner < size_of (shape_of a.tree))
+        by : (ts : List (Grown Part ℕ)) → AreEdges edges (i ∷ reverse rest) ts → inner_of (shape_of a.tree) ≡ inner ++ inner_in ts → (i < length edges.all) × (length inner < size_of (shape_of a.tree))
         by [] h f = absurd h
         by (t ∷ ts) (q, are) f =
             let some = some_inner (shape_of t.tree) in
             let whole = ap length f in
-            (slice_get_within edges i q.edge q.here, omega (arith, inner-length (shape_of a.tree), length-append inner (inner_of (shape_of t.tree) ++ inner_in ts), length-append (inner_of (shape_of t.tree)) (inner_in ts)))
+            (slice_get_within edges.all i q.edge q.here, omega (arith, inner-length (shape_of a.tree), length-append inner (inner_of (shape_of t.tree) ++ inner_in ts), length-append (inner_of (shape_of t.tree)) (inner_in ts)))
 
   -- the same, of equal lists
   pub spelled_as : (a : Grown Part ℕ) (inner inner' : List Bool) (places places' : List ℕ) (labels labels' : List (List Part)) (pending pending' : List ℕ) → inner' ≡ inner → places' ≡ places → labels' ≡ labels → pending' ≡ pending → IsSpelled edges a inner places labels pending → IsSpelled edges a inner' places' labels' pending'

@@ -19,7 +19,7 @@ use Rattle.kex_paths.specs.declared.forest.PathEdge.{PathEdge}
 use Rattle.kex_paths.specs.declared.walk.TreeToken.{TreeToken}
 use Rattle.kex_paths.specs.declared.walk.Task.{Task}
 use Rattle.kex_paths.specs.declared.walk.Task.TheVariants.{OldTree, Visit}
-use Rattle.kex_paths.specs.Forests.{Trees, HasTrees, LeadsToTree}
+use Rattle.kex_paths.specs.Forests.{EdgeStock, Trees, HasTrees, LeadsToTree}
 use Rattle.kex_paths.specs.Nexts.{Outline, IsOfShape, IsChange, HasClass, IsFirstTree, IsNext, BeginsTree, FollowsTree, Shows, ShowsFirst, ShowsNext}
 use Rattle.kex_paths.specs.Tasks.{ShapedTask, tree, go_to, task_of, tokens_left, tokens, RunsTasks}
 use Rattle.kex_paths.proofs.Meanings.{parts_code-append}
@@ -31,20 +31,20 @@ abbrev pub IsDone : (ℕ → Move ℕ) → ℕ → ℕ → List TreeToken → Ta
 IsDone moves b m text first w = (j : ShapedTask) → task_of j ≡ first → text ≡ tokens_left (j ∷ []) → (rs : List (Option (Grown Part ℕ))) × HasTrees w rs × ((h : List Bool) × RunsTasks moves b (j ∷ []) 0 (replicate m false) [] h rs)
 
 -- the edge that is taken off leads to the tree that comes next
-pub done_next : (g : Graph) (b : ℕ) (text : List TreeToken) (w : Trees) (edges : List PathEdge) (root : Option PathEdge) → IsDone (node_moves g.nodes) b (length g.nodes) text OldTree w → ((rs : List (Option (Grown Part ℕ))) (a : Option (Grown Part ℕ)) → HasTrees w (a ∷ []) → LeadsToTree edges root a) → (s : Shape ℕ) → text ≡ tokens s → (a : Option (Grown Part ℕ)) × IsNext g b s a × LeadsToTree edges root a
+pub done_next : (g : Graph) (b : ℕ) (text : List TreeToken) (w : Trees) (edges : EdgeStock) (root : Option PathEdge) → IsDone (node_moves g.nodes) b (length g.nodes) text OldTree w → ((rs : List (Option (Grown Part ℕ))) (a : Option (Grown Part ℕ)) → HasTrees w (a ∷ []) → LeadsToTree edges root a) → (s : Shape ℕ) → text ≡ tokens s → (a : Option (Grown Part ℕ)) × IsNext g b s a × LeadsToTree edges root a
 done_next g b text w edges root done off s e =
     let q = done (tree s) refl (e ∙ sym (append-nil (tokens s))) in
     let r = q.2.1 in
     (r.0, (r.1, r.2), off [] r.0 (subst (λ z. HasTrees w z) (sym r.3.1) q.1))
 
-pub done_first : (g : Graph) (w : Trees) (edges : List PathEdge) (root : Option PathEdge) → IsDone (node_moves g.nodes) 0 (length g.nodes) [] (Visit g.start) w → ((rs : List (Option (Grown Part ℕ))) (a : Option (Grown Part ℕ)) → HasTrees w (a ∷ []) → LeadsToTree edges root a) → (a : Option (Grown Part ℕ)) × IsFirstTree g a × LeadsToTree edges root a
+pub done_first : (g : Graph) (w : Trees) (edges : EdgeStock) (root : Option PathEdge) → IsDone (node_moves g.nodes) 0 (length g.nodes) [] (Visit g.start) w → ((rs : List (Option (Grown Part ℕ))) (a : Option (Grown Part ℕ)) → HasTrees w (a ∷ []) → LeadsToTree edges root a) → (a : Option (Grown Part ℕ)) × IsFirstTree g a × LeadsToTree edges root a
 done_first g w edges root done off =
     let q = done (go_to g.start) refl refl in
     let r = q.2.1 in
     (r.0, (r.1, r.2), off [] r.0 (subst (λ z. HasTrees w z) (sym r.3.1) q.1))
 
 -- there is a tree of the empty text
-pub some_first : (g : Graph) → IsTrimmed g → (edges : List PathEdge) (root : Option PathEdge) → (a : Option (Grown Part ℕ)) → IsFirstTree g a → LeadsToTree edges root a → IsSome root
+pub some_first : (g : Graph) → IsTrimmed g → (edges : EdgeStock) (root : Option PathEdge) → (a : Option (Grown Part ℕ)) → IsFirstTree g a → LeadsToTree edges root a → IsSome root
 some_first g trimmed edges root None (marks, v) h = absurd (machine.first_shows (node_moves g.nodes) g.start (is_trim g trimmed) (length g.nodes) None marks (relabelled_visit (parts_code [] 0) refl (parts_code-append [] 0) (λ s. Put s) itself (λ s. refl) (node_moves g.nodes) v))
 some_first g trimmed edges None (Some a) first h = absurd h
 some_first g trimmed edges (Some x) (Some a) first h = there x
@@ -52,29 +52,29 @@ some_first g trimmed edges (Some x) (Some a) first h = there x
     there : (x : PathEdge) → IsSome (Some x)
     there x = refl
 
-abbrev pub FitsIn : Graph → List PathEdge → PathEdge → Type 0
+abbrev pub FitsIn : Graph → EdgeStock → PathEdge → Type 0
 FitsIn g edges root = (a : Grown Part ℕ) × LeadsToTree edges (Some root) (Some a) × EachPlace (length g.nodes) (shape_of a.tree) × (size_of (shape_of a.tree) < 2 * length g.nodes)
 
-pub first_in : (g : Graph) (edges : List PathEdge) (root : PathEdge) (a : Option (Grown Part ℕ)) → IsFirstTree g a → LeadsToTree edges (Some root) a → FitsIn g edges root
+pub first_in : (g : Graph) (edges : EdgeStock) (root : PathEdge) (a : Option (Grown Part ℕ)) → IsFirstTree g a → LeadsToTree edges (Some root) a → FitsIn g edges root
 first_in g edges root None first h = absurd h
 first_in g edges root (Some a) first h = let f = first_fits g a first in (a, h, f.0, f.1)
 
-pub next_in : (g : Graph) (b : ℕ) (s : Shape ℕ) (edges : List PathEdge) (root : PathEdge) (a : Option (Grown Part ℕ)) → IsNext g b s a → LeadsToTree edges (Some root) a → FitsIn g edges root
+pub next_in : (g : Graph) (b : ℕ) (s : Shape ℕ) (edges : EdgeStock) (root : PathEdge) (a : Option (Grown Part ℕ)) → IsNext g b s a → LeadsToTree edges (Some root) a → FitsIn g edges root
 next_in g b s edges root None next h = absurd h
 next_in g b s edges root (Some a) next h = let f = next_fits g b s a next in (a, h, f.0, f.1)
 
-abbrev pub IsGathered : List PathEdge → PathEdge → Outline → Change → Type 0
+abbrev pub IsGathered : EdgeStock → PathEdge → Outline → Change → Type 0
 IsGathered edges root t u = (a : Grown Part ℕ) → LeadsToTree edges (Some root) (Some a) → IsOfShape t (shape_of a.tree) × IsChange u a
 
-pub begins : (g : Graph) (edges : List PathEdge) (root : PathEdge) (t : Outline) (u : Change) → t.machine ≡ g → IsGathered edges root t u → (a : Option (Grown Part ℕ)) → IsFirstTree g a → LeadsToTree edges (Some root) a → BeginsTree t u
+pub begins : (g : Graph) (edges : EdgeStock) (root : PathEdge) (t : Outline) (u : Change) → t.machine ≡ g → IsGathered edges root t u → (a : Option (Grown Part ℕ)) → IsFirstTree g a → LeadsToTree edges (Some root) a → BeginsTree t u
 begins g edges root t u same got None first h = absurd h
 begins g edges root t u same got (Some a) first h = let q = got a h in (a, subst (λ z. IsFirstTree z (Some a)) (sym same) first, q.0, q.1)
 
-pub follows : (g : Graph) (b : ℕ) (s : Shape ℕ) (edges : List PathEdge) (root : PathEdge) (t : Outline) (u : Change) → t.machine ≡ g → IsGathered edges root t u → (a : Option (Grown Part ℕ)) → IsNext g b s a → LeadsToTree edges (Some root) a → FollowsTree t b s u
+pub follows : (g : Graph) (b : ℕ) (s : Shape ℕ) (edges : EdgeStock) (root : PathEdge) (t : Outline) (u : Change) → t.machine ≡ g → IsGathered edges root t u → (a : Option (Grown Part ℕ)) → IsNext g b s a → LeadsToTree edges (Some root) a → FollowsTree t b s u
 follows g b s edges root t u same got None next h = absurd h
 follows g b s edges root t u same got (Some a) next h = let q = got a h in (a, subst (λ z. IsNext z b s (Some a)) (sym same) next, q.0, q.1)
 
-pub none_follows : (g : Graph) (b : ℕ) (s : Shape ℕ) (edges : List PathEdge) (a : Option (Grown Part ℕ)) → IsNext g b s a → LeadsToTree edges None a → IsNext g b s None
+pub none_follows : (g : Graph) (b : ℕ) (s : Shape ℕ) (edges : EdgeStock) (a : Option (Grown Part ℕ)) → IsNext g b s a → LeadsToTree edges None a → IsNext g b s None
 none_follows g b s edges None next h = next
 none_follows g b s edges (Some a) next h = absurd h
 

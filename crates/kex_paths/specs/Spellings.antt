@@ -6,7 +6,7 @@ use Rattle.kex_machine.specs.Nodes.{Graph}
 use Rattle.kex_machine.specs.Advancing.{EachPlace}
 use Rattle.kex_sst.specs.declared.parts.Part.{Part}
 use Rattle.kex_paths.specs.Nexts.{inner_of, places_of}
-use Rattle.kex_paths.specs.Forests.{IsTreeAt}
+use Rattle.kex_paths.specs.Forests.{EdgeStock, IsLabel, IsTreeAt}
 use Rattle.kex_paths.specs.declared.forest.PathEdge.{PathEdge}
 use Rattle.kex_paths.specs.declared.forest.TreeNode.{TreeNode}
 use Rattle.kex_paths.specs.declared.forest.TreeNode.TheVariants as node
@@ -46,13 +46,13 @@ edges_from (node.Tip p) = []
 edges_from (node.Fork l r) = r ∷ l ∷ []
 
 -- the edge of this number leads to the tree
-pub record IsPathEdge (edges : List PathEdge) (i : ℕ) (t : Grown Part ℕ) : Type 0 where
+pub record IsPathEdge (edges : EdgeStock) (i : ℕ) (t : Grown Part ℕ) : Type 0 where
   pub edge : PathEdge
-  pub here : slice_get edges i ≡ Some edge
-  pub label : reverse edge.label.items ≡ t.label
+  pub here : slice_get edges.all i ≡ Some edge
+  pub label : IsLabel edges.cells edge.label t.label
   pub stands : IsTreeAt edges edge.node t.tree
 
-abbrev pub AreEdges : List PathEdge → List ℕ → List (Grown Part ℕ) → Type 0
+abbrev pub AreEdges : EdgeStock → List ℕ → List (Grown Part ℕ) → Type 0
 AreEdges edges [] [] = Unit {0}
 AreEdges edges [] (t ∷ ts) = ⊥
 AreEdges edges (i ∷ is) [] = ⊥
@@ -72,7 +72,7 @@ labels_in (t ∷ ts) = t.label ∷ (labels_of t.tree ++ labels_in ts)
 
 -- a tree is spelled so far; what is left are the trees of these edges, of which the last is the
 -- next
-pub record IsSpelled (edges : List PathEdge) (a : Grown Part ℕ) (inner : List Bool)
+pub record IsSpelled (edges : EdgeStock) (a : Grown Part ℕ) (inner : List Bool)
     (places : List ℕ) (labels : List (List Part)) (pending : List ℕ) : Type 0 where
   pub left : List (Grown Part ℕ)
   pub are : AreEdges edges (reverse pending) left

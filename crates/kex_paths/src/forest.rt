@@ -1,13 +1,14 @@
 // Trees side by side, of which each may be gone, with parts of an update for labels.
 
-ghost use Rattle.std.specs.Prelude.{◌≡◌, ℕ, List, [], ◌∷◌, ◌++◌, Some, Option, OnOk};
+ghost use Rattle.std.specs.Prelude.{◌≡◌, ℕ, suc, List, [], ◌∷◌, ◌++◌, Some, Option, OnOk, IfOk};
+ghost use Rattle.std.specs.Prelude.{length};
 ghost use Rattle.kex_model.specs.Labelled.{Grown, tip, with_prefix, fork_of};
 ghost use Rattle.kex_sst.specs.declared.parts.Part.{Part};
-ghost use Rattle.kex_paths.specs.Forests.{HasTrees, LeadsToTree, last_tree, trees_before, no_trees};
+ghost use Rattle.kex_paths.specs.Forests.{HasTrees, IsLabel, LeadsToTree, last_tree, trees_before};
+ghost use Rattle.kex_paths.specs.Forests.{no_edges, no_trees};
 
 use kex_code::memory::Memory;
-use kex_sst::parts::Part;
-use smallvec::SmallVec;
+use kex_sst::parts::{Part, Parts};
 use std::alloc::Global;
 use std::marker::Model;
 
@@ -18,18 +19,105 @@ pub enum TreeNode {
     Fork(usize, usize),
 }
 
-/// An edge, with what it leads to. Its label is turned: what is put in front stands at its end.
-#[derive(Drop)]
+/// An edge: its label, by number, and what it leads to.
+#[derive(Clone, Copy, Debug, PartialEq, Eq)]
 pub struct PathEdge {
-    pub label: SmallVec<Part, 4>,
+    pub label: usize,
     pub node: TreeNode,
+}
+
+/// A part of a label, and the number of the label behind it.
+#[derive(Clone, Copy, Debug, PartialEq, Eq)]
+pub struct LabelCell {
+    pub part: Part,
+    pub rest: usize,
+}
+
+/// Edges by number, and the labels of edges: label 0 is empty, and each other is a cell, so that a
+/// part is put in front of a label without a copy.
+#[derive(Drop)]
+pub struct PathEdges {
+    all: Vec<PathEdge>,
+    cells: Vec<LabelCell>,
+}
+
+impl Model for PathEdges {
+    ghost use Rattle.kex_paths.specs.Forests.{EdgeStock};
+
+    ghost Value = { EdgeStock };
+
+    ghost view = { λ e. record { all = e.all.items; cells = e.cells.items } };
+}
+
+impl PathEdges {
+    // No edges.
+    fn new(alloc: Global) -> PathEdges
+        ensures { result ≡ no_edges }
+    {
+        PathEdges {
+            all: Vec::new(alloc),
+            cells: Vec::new(alloc),
+        }
+    }
+
+    // Takes all edges away.
+    fn clear(&mut self)
+        ensures { self.new ≡ no_edges }
+    {
+        self.all.clear();
+        self.cells.clear();
+    }
+
+    /// The edges, by their numbers.
+    pub fn all(&self) -> &[PathEdge]
+        ensures { result.now ≡ self.now.all }
+    {
+        &self.all
+    }
+
+    // One edge more, and its number.
+    fn add(&mut self, edge: PathEdge) -> Result<usize, Memory>
+        ensures edge { OnOk result (self.new.all ≡ self.old.all ++ edge ∷ []) }
+        ensures number { IfOk result (λ n. n ≡ length self.old.all) }
+        ensures cells { self.new.cells ≡ self.old.cells }
+    {
+        let number = self.all.len();
+        self.all.push(edge)?;
+        Ok(number)
+    }
+
+    // The number of the label with a part in front of that of a number.
+    fn put(&mut self, part: Part, rest: usize) -> Result<usize, Memory>
+        ensures cell { OnOk result
+            (self.new.cells ≡ self.old.cells ++ record { part = part; rest = rest } ∷ []) }
+        ensures number { IfOk result (λ n. n ≡ suc (length self.old.cells)) }
+        ensures edges { self.new.all ≡ self.old.all }
+    {
+        self.cells.push(LabelCell { part, rest })?;
+        Ok(self.cells.len())
+    }
+
+    /// The parts of the label of a number.
+    pub fn parts(&self, alloc: Global, label: usize) -> Result<Parts, Memory>
+        requires { (xs : List Part) × IsLabel self.now.cells label xs }
+        ensures { IfOk result (λ parts. (xs : List Part) → IsLabel self.now.cells label xs
+            → parts ≡ xs) }
+    {
+        let mut parts = Parts::new(alloc);
+        let mut left = label;
+        while left > 0 {
+            let cell = self.cells[left - 1];
+            parts.push(cell.part)?;
+            left = cell.rest;
+        }
+        Ok(parts)
+    }
 }
 
 /// Trees side by side, each with an edge to its root; the edges below the roots stand by number.
 #[derive(Drop)]
 pub struct Forest {
-    alloc: Global,
-    edges: Vec<PathEdge>,
+    edges: PathEdges,
     roots: Vec<Option<PathEdge>>,
 }
 
@@ -39,7 +127,7 @@ impl Model for Forest {
 
     ghost Value = { Trees };
 
-    ghost view = { λ g. record { edges = g.edges.items; roots = reverse g.roots.items } };
+    ghost view = { λ g. record { edges = g.edges; roots = reverse g.roots.items } };
 }
 
 impl Forest {
@@ -48,8 +136,7 @@ impl Forest {
         ensures { result ≡ no_trees }
     {
         Forest {
-            alloc,
-            edges: Vec::new(alloc),
+            edges: PathEdges::new(alloc),
             roots: Vec::new(alloc),
         }
     }
@@ -63,7 +150,7 @@ impl Forest {
     }
 
     /// The edges below the roots.
-    pub fn edges(&self) -> &[PathEdge]
+    pub fn edges(&self) -> &PathEdges
         ensures { result.now ≡ self.now.edges }
     {
         &self.edges
@@ -104,9 +191,8 @@ impl Forest {
         ensures { OnOk result ((rs : List (Option (Grown Part ℕ))) → HasTrees self.old rs
             → HasTrees self.new (Some (record { label = []; tree = tip place }) ∷ rs)) }
     {
-        let label = SmallVec::new(self.alloc);
         let node = TreeNode::Tip(place);
-        self.push_root(Some(PathEdge { label, node }))
+        self.push_root(Some(PathEdge { label: 0, node }))
     }
 
     // A fork of two trees, as the last tree.
@@ -116,13 +202,10 @@ impl Forest {
             → LeadsToTree self.old.edges (Some right) (Some b) → HasTrees self.old rs
             → HasTrees self.new (fork_of (Some a) (Some b) ∷ rs)) }
     {
-        let label = SmallVec::new(self.alloc);
-        let left_number = self.edges.len();
-        self.edges.push(left)?;
-        let right_number = self.edges.len();
-        self.edges.push(right)?;
+        let left_number = self.edges.add(left)?;
+        let right_number = self.edges.add(right)?;
         let node = TreeNode::Fork(left_number, right_number);
-        self.push_root(Some(PathEdge { label, node }))
+        self.push_root(Some(PathEdge { label: 0, node }))
     }
 
     // Two trees as the sides of a fork, as the last tree; of one that is gone no fork is left.
@@ -172,7 +255,7 @@ impl Forest {
             return self.push_root(None);
         }
         if let Some(root) = &mut self.roots[count - 1] {
-            root.label.push(part)?;
+            root.label = self.edges.put(part, root.label)?;
         }
         Ok(())
     }

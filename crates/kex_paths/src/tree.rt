@@ -13,7 +13,7 @@ ghost use Rattle.kex_paths.specs.Spellings.{IsTreeSound, key_of, token_number, i
 ghost use Rattle.kex_paths.specs.Spellings.{edges_from};
 ghost use Rattle.kex_paths.specs.Tasks.{tokens_from, IsTipBelow};
 
-use crate::forest::{PathEdge, TreeNode};
+use crate::forest::{PathEdge, PathEdges, TreeNode};
 use crate::walk::{TreeToken, leads_alike};
 use crate::workspace::Workspace;
 use kex_code::memory::Memory;
@@ -139,19 +139,6 @@ pub fn read_tokens(
     Ok(())
 }
 
-// The parts of a turned label.
-fn parts_of(alloc: Global, label: &[Part]) -> Result<Parts, Memory>
-    ensures { IfOk result (λ parts. parts ≡ reverse label.now) }
-{
-    let mut parts = Parts::new(alloc);
-    let mut left = label.len();
-    while left > 0 {
-        left -= 1;
-        parts.push(label[left])?;
-    }
-    Ok(parts)
-}
-
 // A node is spelled; the edges that go from it are to be followed, the left one first.
 fn add_node(
     node: TreeNode,
@@ -192,7 +179,7 @@ pub fn gather<'m>(
     alloc: Global,
     machine: &'m Trimmed,
     root: &PathEdge,
-    edges: &[PathEdge],
+    edges: &PathEdges,
 ) -> Result<(PathTree<'m>, Update), Memory>
     requires few { 2 * length machine.now.nodes ≤ 2 ^ 32 }
     requires fits { (a : Grown Part ℕ) × LeadsToTree edges.now (Some root.now) (Some a)
@@ -202,18 +189,18 @@ pub fn gather<'m>(
     ensures tree { IfOk result (λ r. (a : Grown Part ℕ) → LeadsToTree edges.now (Some root.now)
         (Some a) → IsOfShape r.0 (shape_of a.tree) × IsChange r.1 a) }
 {
-    let mut shape = Vec::with_capacity(alloc, edges.len() + 1)?;
-    let mut leaves = Vec::with_capacity(alloc, edges.len() / 2 + 1)?;
-    let mut regs = Vec::with_capacity(alloc, edges.len())?;
+    let below = edges.all();
+    let mut shape = Vec::with_capacity(alloc, below.len() + 1)?;
+    let mut leaves = Vec::with_capacity(alloc, below.len() / 2 + 1)?;
+    let mut regs = Vec::with_capacity(alloc, below.len())?;
     let mut pending = Vec::new(alloc);
     add_node(root.node, &mut shape, &mut leaves, &mut pending)?;
     while let Some(number) = pending.pop() {
-        let edge = edge_at(edges, number);
-        let label = parts_of(alloc, edge.label.as_slice())?;
-        regs.push(label)?;
+        let edge = edge_at(below, number);
+        regs.push(edges.parts(alloc, edge.label)?)?;
         add_node(edge.node, &mut shape, &mut leaves, &mut pending)?;
     }
-    let out = parts_of(alloc, root.label.as_slice())?;
+    let out = edges.parts(alloc, root.label)?;
     let tree = PathTree {
         machine,
         shape,

@@ -1,9 +1,11 @@
-use Rattle.std.proofs.Common.{◌≡◌, ℕ, [], ◌∷◌, ◌++◌, Some, length, reverse, ap, subst, ◌∙◌, length-append, arith}
+use Rattle.std.proofs.Common.{◌≡◌, ◌<◌, ℕ, List, [], ◌∷◌, ◌++◌, Some, length, ap, sym, subst, ◌∙◌, length-append, arith}
+use Rattle.std.specs.Prelude.{slice_get}
 use Rattle.kex_model.specs.Labelled.{Grown}
 use Rattle.kex_sst.specs.declared.parts.Part.{Part}
+use Rattle.kex_paths.specs.declared.forest.PathEdge.{PathEdge}
 use Rattle.kex_paths.specs.Forests.{LeadsToTree}
 use Rattle.kex_paths.specs.Spellings.{IsSpelled, is_inner, tip_in, edges_from}
-use Rattle.kex_paths.proofs.Preorders.{spelled_start, spelled_more, spelled_as, next_edge}
+use Rattle.kex_paths.proofs.Preorders.{spelled_start, spelled_more, spelled_as, next_edge, next_label}
 use Rattle.kex_paths.proofs.tree.gather.Goals as goal
 use Rattle.kex_paths.proofs.tree.gather.Goals.{In-Some}
 
@@ -21,7 +23,11 @@ spelled c a h = subst (λ z. IsSpelled c.args.edges.now a c.loop-number.shape.it
 pub edge_at-edge-requires : goal.edge_at-edge-requires
 edge_at-edge-requires c =
     let top = (goal.at.edge_at-edge-requires c).In-Some in
-    (next_edge c.args.edges.now c.requires.fits.0 c.loop-number.shape.items c.loop-number.leaves.items c.loop-number.regs.items c.pop.new.self.items c.in-Some.number (spelled top c.requires.fits.0 c.requires.fits.1)).0
+    subst (λ z. c.in-Some.number < length z) (sym c.all-below.ensures) (next_edge c.args.edges.now c.requires.fits.0 c.loop-number.shape.items c.loop-number.leaves.items c.loop-number.regs.items c.pop.new.self.items c.in-Some.number (spelled top c.requires.fits.0 c.requires.fits.1)).0
+
+-- the edge of the number
+here : (below all : List PathEdge) (i : ℕ) (x : PathEdge) → below ≡ all → slice_get below i ≡ Some x → slice_get all i ≡ Some x
+here below all i x same e = subst (λ z. slice_get z i ≡ Some x) same e
 
 pub loop-number-smaller : goal.loop-number-smaller
 loop-number-smaller c =
@@ -31,11 +37,20 @@ loop-number-smaller c =
     let longer = ap length c.in_ok-add_node-2.ensures.shape ∙ length-append c.loop-number.shape.items (is_inner c.edge_at-edge.result.now.node ∷ []) in
     omega arith
 
+pub parts-requires : goal.parts-requires
+parts-requires c =
+    let top = (goal.at.parts-requires c).In-Some in
+    next_label c.args.edges.now c.requires.fits.0 c.loop-number.shape.items c.loop-number.leaves.items c.loop-number.regs.items c.pop.new.self.items c.in-Some.number c.edge_at-edge.result.now (here c.all-below.result.now c.args.edges.now.all c.in-Some.number c.edge_at-edge.result.now c.all-below.ensures c.edge_at-edge.ensures) (spelled top c.requires.fits.0 c.requires.fits.1)
+
+pub parts-requires-2 : goal.parts-requires-2
+parts-requires-2 c = (c.requires.fits.0.label, c.requires.fits.1.0)
+
 pub loop-number-preserved : goal.loop-number-preserved
 loop-number-preserved c = λ a h.
     let top = (goal.at.loop-number-preserved c).In-Some in
     let x = c.edge_at-edge.result.now in
-    let regs : c.push.new.self.items ≡ c.loop-number.regs.items ++ reverse x.label.items ∷ [] = c.in_ok-push.ensures.items ∙ ap (λ z. c.loop-number.regs.items ++ z ∷ []) (c.in_ok-label.ensures ∙ ap reverse c.as_slice.ensures) in
-    spelled_as c.args.edges.now a (c.loop-number.shape.items ++ is_inner x.node ∷ []) c.add_node-in-Some.new.shape.items (c.loop-number.leaves.items ++ tip_in x.node) c.add_node-in-Some.new.leaves.items (c.loop-number.regs.items ++ reverse x.label.items ∷ []) c.push.new.self.items (c.pop.new.self.items ++ edges_from x.node) c.add_node-in-Some.new.pending.items
+    let xs = c.in_ok-parts.field-0 in
+    let regs : c.push.new.self.items ≡ c.loop-number.regs.items ++ xs ∷ [] = c.in_ok-push.ensures.items in
+    spelled_as c.args.edges.now a (c.loop-number.shape.items ++ is_inner x.node ∷ []) c.add_node-in-Some.new.shape.items (c.loop-number.leaves.items ++ tip_in x.node) c.add_node-in-Some.new.leaves.items (c.loop-number.regs.items ++ xs ∷ []) c.push.new.self.items (c.pop.new.self.items ++ edges_from x.node) c.add_node-in-Some.new.pending.items
     c.in_ok-add_node-2.ensures.shape c.in_ok-add_node-2.ensures.leaves regs c.in_ok-add_node-2.ensures.pending
-    (spelled_more c.args.edges.now a c.loop-number.shape.items c.loop-number.leaves.items c.loop-number.regs.items c.pop.new.self.items c.in-Some.number x c.edge_at-edge.ensures (spelled top a h))
+    (spelled_more c.args.edges.now a c.loop-number.shape.items c.loop-number.leaves.items c.loop-number.regs.items c.pop.new.self.items c.in-Some.number x xs (here c.all-below.result.now c.args.edges.now.all c.in-Some.number c.edge_at-edge.result.now c.all-below.ensures c.edge_at-edge.ensures) c.in_ok-parts.ensures (spelled top a h))

@@ -9,7 +9,7 @@ use Rattle.kex_paths.specs.Tasks.{tokens, tokens_from, EachTip}
 use Rattle.kex_paths.proofs.Preorders.{tokens-length, tokens_of_lists, each_tip}
 use Rattle.kex_paths.proofs.TaskSteps.{IsDone, GoesOnBy, done_next, next_in, follows, none_follows}
 use Rattle.kex_paths.proofs.workspace.Workspace.advance.Goals as goal
-use Rattle.kex_paths.proofs.workspace.Workspace.advance.Goals.{in-None, in-Some+in_ok-next-in-Some+in-Inline-1, in-Some+in_ok-next-in-Some+in-Heap-1}
+use Rattle.kex_paths.proofs.workspace.Workspace.advance.Goals.{in-None, in-Some+in_ok-next-in-Some}
 
 pub walk-requires-clause-tips : goal.walk-requires-clause-tips
 walk-requires-clause-tips c =
@@ -48,14 +48,7 @@ returns-clause-next c =
           let r = done_next g c.args.byte c.deref.result.now c.walk.new.tools.forest c.pop_root.new.self.edges None done (λ rs a h. (w.in-None.ensures.trees (a ∷ []) h).0) s text in
           subst (λ z. IsNext z c.args.byte s None) c.self.view_is (none_follows g c.args.byte s c.pop_root.new.self.edges r.0 r.1 r.2))
           )
-      | in-Some+in_ok-next-in-Some+in-Inline-1 w ↦ (
-          subst (λ z. IfOk z (GoesOnBy c.args.self.now c.args.shape.now c.args.leaves.now c.args.byte)) (sym w.result-is)
-          (λ s is.
-          let text : c.deref.result.now ≡ tokens s = c.deref.ensures.value ∙ c.in_ok-read_tokens.ensures ∙ ap₂ (λ u v. tokens_from u v) is.0 is.1 ∙ tokens_of_lists s in
-          let r = done_next g c.args.byte c.deref.result.now c.walk.new.tools.forest w.edges-edges.result.now (Some w.in-Some.root) done (λ rs a h. subst (λ z. LeadsToTree z (Some w.in-Some.root) a) (sym w.edges-edges.ensures) (w.in-Some.ensures.trees (a ∷ []) h).0) s text in
-          follows g c.args.byte s w.edges-edges.result.now w.in-Some.root w.in_ok-next-in-Some.next.0 w.in_ok-next-in-Some.next.1 w.in_ok-next-in-Some.ensures.machine w.in_ok-next-in-Some.ensures.tree r.0 r.1 r.2)
-          )
-      | in-Some+in_ok-next-in-Some+in-Heap-1 w ↦ (
+      | in-Some+in_ok-next-in-Some w ↦ (
           subst (λ z. IfOk z (GoesOnBy c.args.self.now c.args.shape.now c.args.leaves.now c.args.byte)) (sym w.result-is)
           (λ s is.
           let text : c.deref.result.now ≡ tokens s = c.deref.ensures.value ∙ c.in_ok-read_tokens.ensures ∙ ap₂ (λ u v. tokens_from u v) is.0 is.1 ∙ tokens_of_lists s in
