@@ -115,7 +115,7 @@ row_kept p q at u g h = record {
 }
 
 pub has_kept : (p q : Pages) (e : Entry) (to : ℕ) (u : Change) → PagesGrow p q → HasRow p e to u → HasRow q e to u
-has_kept p q e to u g h = record { goes = h.goes; target = h.target; row = row_kept p q e.lists u g h.row; registers = h.registers; silent = h.silent; fresh = h.fresh }
+has_kept p q e to u g h = record { goes = h.goes; target = h.target; row = row_kept p q e.update u g h.row; registers = h.registers; silent = h.silent; fresh = h.fresh }
 
 if_kept : (p q : Pages) (e : Entry) (r : Option Transition) → PagesGrow p q → HasRowIf p e r → HasRowIf q e r
 if_kept p q e None g h = h

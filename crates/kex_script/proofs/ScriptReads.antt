@@ -50,7 +50,7 @@ module _ (s : Sheet) (p : Pages) (lists : s.lists ≡ p.lists) (rows : s.rows �
       ap₂ (λ y z. record { out = y; regs = z }) out regs
 
   pub has_update : (e : Entry) (to : ℕ) (u : Change) → HasRow p e to u → HasUpdate s e to u
-  has_update e to u h = record { goes = h.goes; target = h.target; update = read_row e.lists u h.row; registers = h.registers; silent = h.silent; fresh = h.fresh }
+  has_update e to u h = record { goes = h.goes; target = h.target; update = read_row e.update u h.row; registers = h.registers; silent = h.silent; fresh = h.fresh }
 
   is_entry : (e : Entry) (r : Option Transition) → HasRowIf p e r → IsEntryOf s e r
   is_entry e None h = h

@@ -63,7 +63,7 @@ pub record IsRow (p : Pages) (at : ℕ) (u : Change) : Type 0 where
 pub record HasRow (p : Pages) (e : Entry) (to : ℕ) (u : Change) : Type 0 where
   pub goes : e.goes ≡ true
   pub target : e.target ≡ to
-  pub row : IsRow p e.lists u
+  pub row : IsRow p e.update u
   pub registers : e.registers ≡ length u.regs
   pub silent : (e.silent ≡ true) ↔ (u.out ≡ [])
   pub fresh : e.fresh ≡ true → olds_in u.regs ≡ []

@@ -40,7 +40,7 @@ change_at s at = record {
 
 abbrev pub no_entry : Entry
 no_entry =
-    record { goes = false; silent = false; fresh = false; target = 0; lists = 0; registers = 0 }
+    record { goes = false; silent = false; fresh = false; target = 0; update = 0; registers = 0 }
 
 -- what a state does on a class
 abbrev pub entry_at : Sheet → ℕ → ℕ → Entry
@@ -83,7 +83,7 @@ pub record AreLetters (words : List (List Part)) (letters : Letters) : Type 0 wh
 pub record HasUpdate (s : Sheet) (e : Entry) (to : ℕ) (u : Change) : Type 0 where
   pub goes : e.goes ≡ true
   pub target : e.target ≡ to
-  pub update : change_at s e.lists ≡ u
+  pub update : change_at s e.update ≡ u
   pub registers : e.registers ≡ length u.regs
   pub silent : (e.silent ≡ true) ↔ (u.out ≡ [])
   pub fresh : e.fresh ≡ true → olds_in u.regs ≡ []

@@ -4,7 +4,7 @@
 //! Stands on tables. A word is a list of parts without old registers; a `ByteWord` is a word with
 //! the byte that was read, and `code_over` says what symbols pieces stand for. A `Script` has
 //! each list of parts of a table once, by number, and says for each state and class of bytes
-//! which lists its update has; `IsScriptOf` ties it to its table.
+//! which update it has; `IsScriptOf` ties it to its table.
 //!
 //! ```text
 //! state, class ─ entry ─► update ─ passed, given ─► list ─ tail ─► list, register, word
@@ -16,6 +16,7 @@
 //! five bytes along it.
 #![tactic(auto)]
 
+pub mod ids;
 pub mod interned;
 pub mod letters;
 pub mod piece;

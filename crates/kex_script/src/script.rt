@@ -5,6 +5,7 @@ ghost use Rattle.std.specs.Prelude.{MatchOption, get_or, slice_get, length};
 ghost use Rattle.kex_script.specs.Scripts.{AreLetters, IsScriptOf, IsTail, change_at, entry_at};
 ghost use Rattle.kex_script.specs.Scripts.{list_at};
 
+use crate::ids::{ListId, UpdateId, WordId};
 use crate::letters::Letters;
 use crate::writer::Writer;
 use kex_code::memory::Memory;
@@ -17,9 +18,9 @@ use std::marker::Model;
 /// of this number, which is shorter.
 #[derive(Clone, Copy, Debug, PartialEq, Eq)]
 pub struct Tail {
-    pub before: u32,
+    pub before: ListId,
     pub old: Option<u32>,
-    pub word: Option<u32>,
+    pub word: Option<WordId>,
 }
 
 /// What a state does on a class of bytes. Where it has no transition the rest says nothing.
@@ -32,8 +33,7 @@ pub struct Entry {
     /// Whether no register is given an old one.
     pub fresh: bool,
     pub target: u32,
-    /// Which lists it has: the place of its update among the rows.
-    pub lists: u32,
+    pub update: UpdateId,
     /// How many registers the target has.
     pub registers: u32,
 }
@@ -142,19 +142,19 @@ impl Script {
 
     /// The number of the list that an update passes on.
     #[inline(always)]
-    pub fn passed(&self, lists: u32) -> u32
-        ensures { list_at self.now result ≡ (change_at self.now lists).out }
+    pub fn passed(&self, update: UpdateId) -> ListId
+        ensures { list_at self.now result ≡ (change_at self.now update).out }
     {
-        number_at(&self.rows, lists as usize + 1)
+        number_at(&self.rows, update as usize + 1)
     }
 
     /// The number of the list that an update gives to a register; list 0, which is empty, where
     /// there is no such register.
     #[inline(always)]
-    pub fn given(&self, lists: u32, register: usize) -> u32
-        ensures { list_at self.now result ≡ get_or (change_at self.now lists).regs register [] }
+    pub fn given(&self, update: UpdateId, register: usize) -> ListId
+        ensures { list_at self.now result ≡ get_or (change_at self.now update).regs register [] }
     {
-        let at = lists as usize;
+        let at = update as usize;
         if register >= number_at(&self.rows, at) as usize {
             return 0;
         }
@@ -162,10 +162,10 @@ impl Script {
     }
 
     /// A list by its number; an empty one where there is none.
-    pub fn list(&self, number: u32) -> &[Part]
-        ensures { result.now ≡ list_at self.now number }
+    pub fn list(&self, list: ListId) -> &[Part]
+        ensures { result.now ≡ list_at self.now list }
     {
-        match self.lists.get(number as usize) {
+        match self.lists.get(list as usize) {
             Some(parts) => parts.as_slice(),
             None => &[],
         }
@@ -187,7 +187,7 @@ impl Script {
 
     /// A list from its end; none for a list that is empty.
     #[inline(always)]
-    pub fn tail(&self, list: u32) -> Option<Tail>
+    pub fn tail(&self, list: ListId) -> Option<Tail>
         ensures empty { list_at self.now 0 ≡ [] }
         ensures tail { MatchOption result (list_at self.now list
             ≡ []) (λ x. IsTail self.now.words self.now.lists x (list_at self.now list)) }
@@ -211,7 +211,7 @@ impl Entry {
           silent = false;
           fresh = false;
           target = 0;
-          lists = 0;
+          update = 0;
           registers = 0;
         } }
     {
@@ -220,7 +220,7 @@ impl Entry {
             silent: false,
             fresh: false,
             target: 0,
-            lists: 0,
+            update: 0,
             registers: 0,
         }
     }

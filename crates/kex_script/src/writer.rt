@@ -11,6 +11,7 @@ ghost use Rattle.kex_script.specs.Pages.{AreEntries, AreListsAt, AreSound, Pages
 ghost use Rattle.kex_script.specs.Pages.{HasRowIf, IsJoined, IsListAt, IsRow, IsSegment};
 ghost use Rattle.kex_script.specs.Pages.{KeepsItems};
 
+use crate::ids::{ListId, UpdateId, WordId};
 use crate::interned::Interned;
 use crate::letters::Letters;
 use crate::rows::Rows;
@@ -123,7 +124,7 @@ fn first_segment(parts: &[Part]) -> Segment
 }
 
 // The number of a word, if it has parts.
-fn word_number(words: &mut Interned, word: &[Part]) -> Result<Option<u32>, Memory>
+fn word_number(words: &mut Interned, word: &[Part]) -> Result<Option<WordId>, Memory>
     ensures number { IfOk result (λ n. IsWord words.new n word.now) }
     ensures kept { OnOk result (KeepsItems words.old words.new) }
 {
@@ -158,11 +159,11 @@ impl Writer {
     // The number of the list that is the list `before`, an old register or none, and a word.
     fn join(
         &mut self,
-        before: u32,
+        before: ListId,
         old: Option<u32>,
         word: &[Part],
         whole: &[Part],
-    ) -> Result<u32, Memory>
+    ) -> Result<ListId, Memory>
         requires sound { AreSound self.old }
         requires joined { IsJoined self.old.lists before old word.now whole.now }
         ensures number { IfOk result (λ n. slice_get self.new.lists n ≡ Some whole.now) }
@@ -180,7 +181,7 @@ impl Writer {
     }
 
     // The number of a list.
-    fn list(&mut self, parts: &[Part]) -> Result<u32, Memory>
+    fn list(&mut self, parts: &[Part]) -> Result<ListId, Memory>
         requires sound { AreSound self.old }
         ensures number { IfOk result (λ n. slice_get self.new.lists n ≡ Some parts.now) }
         ensures sound { OnOk result (AreSound self.new) }
@@ -230,7 +231,7 @@ impl Writer {
     }
 
     // An update is put behind the rows, if no equal one is there, and its place told.
-    fn update(&mut self, update: &Update) -> Result<u32, Memory>
+    fn update(&mut self, update: &Update) -> Result<UpdateId, Memory>
         requires sound { AreSound self.old }
         ensures row { IfOk result (λ at. IsRow self.new at update.now) }
         ensures sound { OnOk result (AreSound self.new) }
@@ -263,7 +264,7 @@ impl Writer {
             silent: update.out().as_slice().is_empty(),
             fresh: is_fresh(update.regs()),
             target,
-            lists: self.update(update)?,
+            update: self.update(update)?,
             registers,
         })
     }

@@ -7,13 +7,13 @@ pub returns-then-register-number_at : goal.returns-then-register-number_at
 returns-then-register-number_at c =
     let s = c.args.self.now in
     let empty : list_at s 0 ≡ [] = subst (λ (z : Sheet). list_at z 0 ≡ []) c.self.view_is (empty_list (record { words = c.self.inside.words.items; lists = c.self.inside.lists.items; tails = c.self.inside.tails.items; rows = c.self.inside.rows.items; initial = c.self.inside.initial; entries = c.self.inside.entries.items; width = c.self.inside.width }) c.self.invariant.0) in
-    let count : c.number_at.result ≡ get_or s.rows c.args.lists 0 = c.number_at.ensures ∙ ap (λ z. get_or z c.args.lists 0) (c.deref.ensures.value ∙ ap (λ (z : Sheet). z.rows) c.self.view_is) in
-    empty ∙ sym (given_past s (suc (suc c.args.lists)) (get_or s.rows c.args.lists 0) c.args.register (omega (arith, c.if-register-number_at.true, count)))
+    let count : c.number_at.result ≡ get_or s.rows c.args.update 0 = c.number_at.ensures ∙ ap (λ z. get_or z c.args.update 0) (c.deref.ensures.value ∙ ap (λ (z : Sheet). z.rows) c.self.view_is) in
+    empty ∙ sym (given_past s (suc (suc c.args.update)) (get_or s.rows c.args.update 0) c.args.register (omega (arith, c.if-register-number_at.true, count)))
 
 pub returns : goal.returns
 returns c =
     let s = c.args.self.now in
-    let count : c.number_at.result ≡ get_or s.rows c.args.lists 0 = c.number_at.ensures ∙ ap (λ z. get_or z c.args.lists 0) (c.deref.ensures.value ∙ ap (λ (z : Sheet). z.rows) c.self.view_is) in
-    let at : c.args.lists + 2 + c.args.register ≡ suc (suc c.args.lists) + c.args.register = omega arith in
-    let number : c.number_at-2.result ≡ get_or s.rows (suc (suc c.args.lists) + c.args.register) 0 = c.number_at-2.ensures ∙ ap (λ z. get_or z (c.args.lists + 2 + c.args.register) 0) (c.deref-2.ensures.value ∙ ap (λ (z : Sheet). z.rows) c.self.view_is) ∙ ap (λ z. get_or s.rows z 0) at in
-    ap (λ z. list_at s z) number ∙ sym (given_at s (suc (suc c.args.lists)) (get_or s.rows c.args.lists 0) c.args.register (omega (arith, c.if-register-number_at.false, count)))
+    let count : c.number_at.result ≡ get_or s.rows c.args.update 0 = c.number_at.ensures ∙ ap (λ z. get_or z c.args.update 0) (c.deref.ensures.value ∙ ap (λ (z : Sheet). z.rows) c.self.view_is) in
+    let at : c.args.update + 2 + c.args.register ≡ suc (suc c.args.update) + c.args.register = omega arith in
+    let number : c.number_at-2.result ≡ get_or s.rows (suc (suc c.args.update) + c.args.register) 0 = c.number_at-2.ensures ∙ ap (λ z. get_or z (c.args.update + 2 + c.args.register) 0) (c.deref-2.ensures.value ∙ ap (λ (z : Sheet). z.rows) c.self.view_is) ∙ ap (λ z. get_or s.rows z 0) at in
+    ap (λ z. list_at s z) number ∙ sym (given_at s (suc (suc c.args.update)) (get_or s.rows c.args.update 0) c.args.register (omega (arith, c.if-register-number_at.false, count)))
