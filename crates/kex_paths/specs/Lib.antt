@@ -6,3 +6,4 @@ pub mod Spellings
 pub mod Workspaces
 pub mod Laws
 pub mod KeptLeaves
+pub mod Updates

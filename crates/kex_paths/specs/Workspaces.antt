@@ -1,7 +1,12 @@
 -- What a workspace keeps: a byte of each class, and a mark for each place.
 use Rattle.std.specs.Prelude.{◌≡◌, ℕ, ◌<◌, Bool, List, Option, Some, None, length, slice_get}
 use Rattle.kex_byteset.specs.Classes.{class_at}
+use Rattle.kex_model.specs.Labelled.{Shape, Grown}
 use Rattle.kex_machine.specs.Nodes.{Graph, HasClasses}
+use Rattle.kex_sst.specs.declared.parts.Part.{Part}
+use Rattle.kex_paths.specs.declared.forest.PathEdge.{PathEdge}
+use Rattle.kex_paths.specs.Forests.{EdgeStock, LeadsToTree}
+use Rattle.kex_paths.specs.Nexts.{IsNext}
 
 -- for each class one of its bytes, and none where it has no byte
 pub record AreSamples (classes : List ℕ) (samples : List (Option ℕ)) : Type 0 where
@@ -16,3 +21,8 @@ pub record IsWorkspaceReady (g : Graph) (samples : List (Option ℕ))
   pub has : HasClasses g.nodes classes
   pub each : AreSamples classes samples
   pub long : length marks ≡ length g.nodes
+
+-- the edge leads to the tree that one of this shape goes on to with byte b; none where it is gone
+abbrev pub ReachesTree : Graph → ℕ → Shape ℕ → EdgeStock → Option PathEdge → Type 0
+ReachesTree g b s edges root = (a : Option (Grown Part ℕ)) × IsNext g b s a
+    × LeadsToTree edges root a

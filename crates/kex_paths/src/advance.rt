@@ -11,6 +11,7 @@ use crate::workspace::Workspace;
 use kex_code::memory::Memory;
 use kex_machine::Trimmed;
 use kex_sst::parts::Update;
+use kex_sst::shared::SharedUpdate;
 use std::alloc::Global;
 
 // The most nodes of machines that path trees are made for: such trees have fewer than twice as many
@@ -70,6 +71,26 @@ impl<'m> PathTree<'m> {
         match workspace.sample(class) {
             None => Ok(None),
             Some(byte) => workspace.advance(self.shape(), self.leaves(), byte),
+        }
+    }
+
+    /// The same, with an update that was met before in the workspace, if there is one.
+    pub fn advance_shared(
+        &self,
+        workspace: &mut Workspace<'m>,
+        class: u8,
+    ) -> Result<Option<(PathTree<'m>, SharedUpdate)>, Memory>
+        requires { workspace.old ≡ self.now.machine }
+        ensures machine { IfOk result (λ r. IfSome r (λ n. n.0.machine ≡ self.now.machine)) }
+        ensures next { IfOk result (λ r. (s : Shape ℕ) (b : ℕ) → IsOfShape self.now s
+            → HasClass self.now.machine class b
+            → MatchOption r (IsNext self.now.machine b s None) (λ n. FollowsTree n.0 b s n.1)) }
+        ensures shows { IfOk result (λ r. ShowsFor self.now class r) }
+        ensures same { workspace.new ≡ workspace.old }
+    {
+        match workspace.sample(class) {
+            None => Ok(None),
+            Some(byte) => workspace.advance_shared(self.shape(), self.leaves(), byte),
         }
     }
 }

@@ -1,15 +1,16 @@
 // Trees side by side, of which each may be gone, with parts of an update for labels.
 
 ghost use Rattle.std.specs.Prelude.{◌≡◌, ℕ, suc, List, [], ◌∷◌, ◌++◌, Some, Option, OnOk, IfOk};
-ghost use Rattle.std.specs.Prelude.{length};
+ghost use Rattle.std.specs.Prelude.{length, true};
 ghost use Rattle.kex_model.specs.Labelled.{Grown, tip, with_prefix, fork_of};
 ghost use Rattle.kex_sst.specs.declared.parts.Part.{Part};
 ghost use Rattle.kex_paths.specs.Forests.{HasTrees, IsLabel, LeadsToTree, last_tree, trees_before};
 ghost use Rattle.kex_paths.specs.Forests.{no_edges, no_trees};
 
 use kex_code::memory::Memory;
-use kex_sst::parts::{Part, Parts};
+use kex_sst::parts::{Part, Parts, are_same, hash_parts};
 use std::alloc::Global;
+use std::hash::{FoldHasher, Hasher};
 use std::marker::Model;
 
 /// What an edge leads to: a place, or a fork, by the numbers of its left and its right edge.
@@ -111,6 +112,39 @@ impl PathEdges {
             left = cell.rest;
         }
         Ok(parts)
+    }
+
+    /// Whether the label of a number has these parts.
+    pub fn has_parts(&self, label: usize, parts: &[Part]) -> bool
+        requires { (xs : List Part) × IsLabel self.now.cells label xs }
+        ensures { result ≡ true → (xs : List Part) → IsLabel self.now.cells label xs
+            → parts.now ≡ xs }
+    {
+        let mut left = label;
+        for part in parts {
+            if left == 0 {
+                return false;
+            }
+            let cell = self.cells[left - 1];
+            if !are_same(&[cell.part], &[*part]) {
+                return false;
+            }
+            left = cell.rest;
+        }
+        left == 0
+    }
+
+    /// Hashes the label of a number, with a mark at its end.
+    pub fn hash_label(&self, label: usize, hasher: &mut FoldHasher)
+        requires { (xs : List Part) × IsLabel self.now.cells label xs }
+    {
+        let mut left = label;
+        while left > 0 {
+            let cell = self.cells[left - 1];
+            hash_parts(&[cell.part], hasher);
+            left = cell.rest;
+        }
+        hasher.write_u8(0);
     }
 }
 

@@ -11,5 +11,6 @@ mod forest;
 pub mod laws;
 mod restrict;
 pub mod tree;
+pub mod updates;
 mod walk;
 pub mod workspace;

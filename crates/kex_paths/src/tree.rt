@@ -1,8 +1,8 @@
 // Path trees, and how one is made of what a walk leaves.
 
 ghost use Rattle.std.specs.Prelude.{◌≡◌, ℕ, ◌*◌, ◌<◌, ◌≤◌, ◌^◌, ◌↔◌, ◌∷◌, ◌++◌, [], List, Some};
-ghost use Rattle.std.specs.Prelude.{IsTrue, OnOk, IfOk, length, reverse, slice_get};
-ghost use Rattle.kex_model.specs.Labelled.{Grown, Shape, shape_of, size_of};
+ghost use Rattle.std.specs.Prelude.{IsTrue, OnOk, IfOk, length, slice_get};
+ghost use Rattle.kex_model.specs.Labelled.{Grown, Shape, labels_of, shape_of, size_of};
 ghost use Rattle.kex_machine.specs.Nodes.{node_moves};
 ghost use Rattle.kex_machine.specs.Advancing.{EachPlace};
 ghost use Rattle.kex_sst.specs.declared.parts.Part.{Part};
@@ -12,13 +12,16 @@ ghost use Rattle.kex_paths.specs.Alikes.{LeadAlikeFrom, GoesOnAlike};
 ghost use Rattle.kex_paths.specs.Spellings.{IsTreeSound, key_of, token_number, is_inner, tip_in};
 ghost use Rattle.kex_paths.specs.Spellings.{edges_from};
 ghost use Rattle.kex_paths.specs.Tasks.{tokens_from, IsTipBelow};
+ghost use Rattle.kex_paths.specs.Updates.{AreLabels};
 
 use crate::forest::{PathEdge, PathEdges, TreeNode};
+use crate::updates::{MetUpdates, update_of};
 use crate::walk::{TreeToken, leads_alike};
 use crate::workspace::Workspace;
 use kex_code::memory::Memory;
 use kex_machine::Trimmed;
-use kex_sst::parts::{Part, Parts, Update};
+use kex_sst::parts::Update;
+use kex_sst::shared::SharedUpdate;
 use std::alloc::Global;
 use std::marker::Model;
 
@@ -173,6 +176,41 @@ fn edge_at(edges: &[PathEdge], number: usize) -> &PathEdge
     edges.get(number).unwrap()
 }
 
+/// The tree that an edge leads to, and the labels of the edges below it, in preorder.
+pub fn spell<'m>(
+    alloc: Global,
+    machine: &'m Trimmed,
+    root: &PathEdge,
+    edges: &PathEdges,
+) -> Result<(PathTree<'m>, Vec<usize>), Memory>
+    requires few { 2 * length machine.now.nodes ≤ 2 ^ 32 }
+    requires fits { (a : Grown Part ℕ) × LeadsToTree edges.now (Some root.now) (Some a)
+        × EachPlace (length machine.now.nodes) (shape_of a.tree)
+        × (size_of (shape_of a.tree) < 2 * length machine.now.nodes) }
+    ensures machine { IfOk result (λ r. r.0.machine ≡ machine.now) }
+    ensures tree { IfOk result (λ r. (a : Grown Part ℕ) → LeadsToTree edges.now (Some root.now)
+        (Some a) → IsOfShape r.0 (shape_of a.tree)
+        × AreLabels edges.now.cells r.1.items (labels_of a.tree)) }
+{
+    let below = edges.all();
+    let mut shape = Vec::with_capacity(alloc, below.len() + 1)?;
+    let mut leaves = Vec::with_capacity(alloc, below.len() / 2 + 1)?;
+    let mut labels = Vec::with_capacity(alloc, below.len())?;
+    let mut pending = Vec::new(alloc);
+    add_node(root.node, &mut shape, &mut leaves, &mut pending)?;
+    while let Some(number) = pending.pop() {
+        let edge = edge_at(below, number);
+        labels.push(edge.label)?;
+        add_node(edge.node, &mut shape, &mut leaves, &mut pending)?;
+    }
+    let tree = PathTree {
+        machine,
+        shape,
+        leaves,
+    };
+    Ok((tree, labels))
+}
+
 /// The tree that an edge leads to, with the update that its label and those of the edges below it
 /// are.
 pub fn gather<'m>(
@@ -189,22 +227,28 @@ pub fn gather<'m>(
     ensures tree { IfOk result (λ r. (a : Grown Part ℕ) → LeadsToTree edges.now (Some root.now)
         (Some a) → IsOfShape r.0 (shape_of a.tree) × IsChange r.1 a) }
 {
-    let below = edges.all();
-    let mut shape = Vec::with_capacity(alloc, below.len() + 1)?;
-    let mut leaves = Vec::with_capacity(alloc, below.len() / 2 + 1)?;
-    let mut regs = Vec::with_capacity(alloc, below.len())?;
-    let mut pending = Vec::new(alloc);
-    add_node(root.node, &mut shape, &mut leaves, &mut pending)?;
-    while let Some(number) = pending.pop() {
-        let edge = edge_at(below, number);
-        regs.push(edges.parts(alloc, edge.label)?)?;
-        add_node(edge.node, &mut shape, &mut leaves, &mut pending)?;
-    }
-    let out = edges.parts(alloc, root.label)?;
-    let tree = PathTree {
-        machine,
-        shape,
-        leaves,
-    };
-    Ok((tree, Update::new(out, regs)))
+    let (tree, labels) = spell(alloc, machine, root, edges)?;
+    let update = update_of(alloc, edges, root.label, &labels)?;
+    Ok((tree, update))
+}
+
+/// The same, with an update that was met before, if there is one.
+pub fn gather_shared<'m>(
+    alloc: Global,
+    machine: &'m Trimmed,
+    root: &PathEdge,
+    edges: &PathEdges,
+    updates: &mut MetUpdates,
+) -> Result<(PathTree<'m>, SharedUpdate), Memory>
+    requires few { 2 * length machine.now.nodes ≤ 2 ^ 32 }
+    requires fits { (a : Grown Part ℕ) × LeadsToTree edges.now (Some root.now) (Some a)
+        × EachPlace (length machine.now.nodes) (shape_of a.tree)
+        × (size_of (shape_of a.tree) < 2 * length machine.now.nodes) }
+    ensures machine { IfOk result (λ r. r.0.machine ≡ machine.now) }
+    ensures tree { IfOk result (λ r. (a : Grown Part ℕ) → LeadsToTree edges.now (Some root.now)
+        (Some a) → IsOfShape r.0 (shape_of a.tree) × IsChange r.1 a) }
+{
+    let (tree, labels) = spell(alloc, machine, root, edges)?;
+    let update = updates.share(edges, root.label, &labels)?;
+    Ok((tree, update))
 }

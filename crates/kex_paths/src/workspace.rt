@@ -8,14 +8,17 @@ ghost use Rattle.kex_machine.specs.Nodes.{node_moves, IsTrimmed};
 ghost use Rattle.kex_machine.specs.Advancing.{LeadAlike};
 ghost use Rattle.kex_paths.specs.Nexts.{Outline, IsOfShape, HasClass, IsNext, FollowsTree};
 ghost use Rattle.kex_paths.specs.Spellings.{IsTreeSound};
-ghost use Rattle.kex_paths.specs.Workspaces.{AreSamples};
+ghost use Rattle.kex_paths.specs.Workspaces.{AreSamples, ReachesTree};
 
-use crate::tree::{PathTree, gather, read_tokens};
+use crate::forest::PathEdge;
+use crate::tree::{PathTree, gather, gather_shared, read_tokens};
+use crate::updates::MetUpdates;
 use crate::walk::{Task, Tools, TreeToken, walk};
 use kex_byteset::Partition;
 use kex_code::memory::Memory;
 use kex_machine::Trimmed;
 use kex_sst::parts::Update;
+use kex_sst::shared::SharedUpdate;
 use std::alloc::Global;
 use std::marker::Model;
 
@@ -28,6 +31,7 @@ pub struct Workspace<'m> {
     samples: [Option<u8>; 256],
     tokens: Vec<TreeToken>,
     tools: Tools,
+    updates: MetUpdates,
 }
 
 impl<'m> Model for Workspace<'m> {
@@ -52,6 +56,30 @@ pub fn samples_of(partition: &Partition) -> [Option<u8>; 256]
     samples
 }
 
+// What a walk over a tree of these lists reaches with a byte: the edge to the root of the tree that
+// it goes on to, whose other edges the tools keep.
+fn reach(
+    machine: &Trimmed,
+    shape: &[bool],
+    leaves: &[u32],
+    byte: u8,
+    tokens: &mut Vec<TreeToken>,
+    tools: &mut Tools,
+) -> Result<Option<PathEdge>, Memory>
+    requires sound { IsTreeSound machine.now shape.now leaves.now }
+    requires long { length tools.old.marks ≡ length machine.now.nodes }
+    ensures next { IfOk result (λ root. (s : Shape ℕ)
+        → IsOfShape (record { machine = machine.now; shape = shape.now; leaves = leaves.now }) s
+        → ReachesTree machine.now byte s tools.new.forest.edges root) }
+    ensures trimmed { IsTrimmed machine.now }
+    ensures long { length tools.new.marks ≡ length machine.now.nodes }
+{
+    let nodes = machine.nodes();
+    read_tokens(shape, leaves, tokens)?;
+    walk(nodes, tokens, byte, Task::OldTree, tools)?;
+    Ok(tools.forest.pop_root())
+}
+
 impl<'m> Workspace<'m> {
     /// For the path trees of this machine.
     pub fn new(alloc: Global, machine: &'m Trimmed) -> Result<Workspace<'m>, Memory>
@@ -65,6 +93,7 @@ impl<'m> Workspace<'m> {
             samples,
             tokens: Vec::new(alloc),
             tools,
+            updates: MetUpdates::new(alloc),
         })
     }
 
@@ -91,14 +120,39 @@ impl<'m> Workspace<'m> {
         ensures trimmed { IsTrimmed self.old }
         ensures same { self.new ≡ self.old }
     {
-        let nodes = self.machine.nodes();
-        read_tokens(shape, leaves, &mut self.tokens)?;
-        walk(nodes, &self.tokens, byte, Task::OldTree, &mut self.tools)?;
-        match self.tools.forest.pop_root() {
+        let machine = self.machine;
+        let tools = &mut self.tools;
+        match reach(machine, shape, leaves, byte, &mut self.tokens, tools)? {
             None => Ok(None),
             Some(root) => {
-                let edges = self.tools.forest.edges();
-                let next = gather(self.alloc, self.machine, &root, edges)?;
+                let next = gather(self.alloc, machine, &root, tools.forest.edges())?;
+                Ok(Some(next))
+            }
+        }
+    }
+
+    // The same, with an update that was met before, if there is one.
+    pub(crate) fn advance_shared(
+        &mut self,
+        shape: &[bool],
+        leaves: &[u32],
+        byte: u8,
+    ) -> Result<Option<(PathTree<'m>, SharedUpdate)>, Memory>
+        requires { IsTreeSound self.old shape.now leaves.now }
+        ensures machine { IfOk result (λ r. IfSome r (λ n. n.0.machine ≡ self.old)) }
+        ensures next { IfOk result (λ r. (s : Shape ℕ)
+            → IsOfShape (record { machine = self.old; shape = shape.now; leaves = leaves.now }) s
+            → MatchOption r (IsNext self.old byte s None) (λ n. FollowsTree n.0 byte s n.1)) }
+        ensures trimmed { IsTrimmed self.old }
+        ensures same { self.new ≡ self.old }
+    {
+        let machine = self.machine;
+        let tools = &mut self.tools;
+        match reach(machine, shape, leaves, byte, &mut self.tokens, tools)? {
+            None => Ok(None),
+            Some(root) => {
+                let edges = tools.forest.edges();
+                let next = gather_shared(self.alloc, machine, &root, edges, &mut self.updates)?;
                 Ok(Some(next))
             }
         }
