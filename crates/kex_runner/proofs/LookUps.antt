@@ -8,8 +8,8 @@ use Rattle.kex_sst.specs.Parts.{value, parts_code}
 use Rattle.kex_script.specs.declared.piece.ByteWord.{ByteWord}
 use Rattle.kex_script.specs.declared.script.Tail.{Tail}
 use Rattle.kex_script.specs.Scripts.{Sheet, list_at, if_old, IsTail, IsWord}
-use Rattle.kex_runner.specs.declared.reading.Reading.{Reading}
-use Rattle.kex_runner.specs.declared.reading.Unread.{Unread}
+use Rattle.kex_runner.specs.declared.history.reading.Reading.{Reading}
+use Rattle.kex_runner.specs.declared.history.reading.Unread.{Unread}
 use Rattle.kex_runner.specs.Noting.{ByteUpdate, next_registers, registers_after, spelled_back}
 use Rattle.kex_runner.specs.Looking.{unread_code, codes_of, AreNoted, if_some, unless_empty, part_work, register_work, list_work, weight_of, old_text, old_weight, HasAskedNext, HasReadList}
 use Rattle.kex_runner.proofs.Notes.{meant_fresh}

@@ -17,7 +17,7 @@ use Rattle.kex_script.specs.declared.script.Entry.{Entry}
 use Rattle.kex_script.specs.Scripts.{IsScriptOf, change_at, entry_at}
 use Rattle.kex_runner.specs.declared.quiet.Quiet.{Quiet}
 use Rattle.kex_runner.specs.declared.quiet.Guide.{Guide}
-use Rattle.kex_runner.specs.declared.reading.NotedUpdate.{NotedUpdate}
+use Rattle.kex_runner.specs.declared.history.NotedUpdate.{NotedUpdate}
 use Rattle.kex_runner.specs.Noting.{next_registers, noted_by, registers_after, settled_of, update_of, updates_of}
 use Rattle.kex_runner.specs.Following.{Follows, IsTablePlace, pass_at}
 use Rattle.kex_runner.specs.Quiet.{IsGuide, IsQuiet, StaysAt, quiet_at, staying}
@@ -36,7 +36,7 @@ push_each P (z ∷ zs) x h p zero y e = h zero y e
 push_each P (z ∷ zs) x h p (suc k) y e = push_each (λ i. P (suc i)) zs x (λ i w g. h (suc i) w g) p k y e
 
 -- one note more
-pub noted_more : (g : Guide) (base : List (List ByteWord)) (notes : List NotedUpdate) (n : NotedUpdate) → noted_by g.script base (notes ++ n ∷ []) ≡ next_registers (change_at g.script n.lists) n.byte (noted_by g.script base notes)
+pub noted_more : (g : Guide) (base : List (List ByteWord)) (notes : List NotedUpdate) (n : NotedUpdate) → noted_by g.script base (notes ++ n ∷ []) ≡ next_registers (change_at g.script n.update) n.byte (noted_by g.script base notes)
 noted_more g base notes n =
     ap (λ z. registers_after (settled_of g.script base) z) (map_push (λ m. update_of g.script m) notes n)
     ∙ registers_push (settled_of g.script base) (updates_of g.script notes) (update_of g.script n)
@@ -74,20 +74,20 @@ module _ (t : Transducer) (g : Guide) (table : IsTable t) (script : IsScriptOf g
     step : IsStep g.script t (row / g.width) class (entry_at g.script (row / g.width) class)
     step = step_of g.script t (row / g.width) class (entry_at g.script (row / g.width) class) script lt refl h.goes
 
-    noted : noted_by g.script base (notes ++ record { lists = q.lists; byte = b; stays = stays } ∷ []) ≡ next_registers (change_at g.script (entry_at g.script (row / g.width) class).lists) b (noted_by g.script base notes)
-    noted = noted_more g base notes (record { lists = q.lists; byte = b; stays = stays }) ∙ ap (λ z. next_registers (change_at g.script z) b (noted_by g.script base notes)) h.lists
+    noted : noted_by g.script base (notes ++ record { update = q.update; byte = b; stays = stays } ∷ []) ≡ next_registers (change_at g.script (entry_at g.script (row / g.width) class).update) b (noted_by g.script base notes)
+    noted = noted_more g base notes (record { update = q.update; byte = b; stays = stays }) ∙ ap (λ z. next_registers (change_at g.script z) b (noted_by g.script base notes)) h.update
 
-    pub place_quiet : IsTablePlace t (row / g.width) (noted_by g.script base notes) → IsTablePlace t (q.row / g.width) (noted_by g.script base (notes ++ record { lists = q.lists; byte = b; stays = stays } ∷ []))
+    pub place_quiet : IsTablePlace t (row / g.width) (noted_by g.script base notes) → IsTablePlace t (q.row / g.width) (noted_by g.script base (notes ++ record { update = q.update; byte = b; stays = stays } ∷ []))
     place_quiet p =
         let e = entry_at g.script (row / g.width) class in
-        subst (λ z. IsTablePlace t z (noted_by g.script base (notes ++ record { lists = q.lists; byte = b; stays = stays } ∷ []))) (sym (target e q h))
-        (place_next t (row / g.width) class (noted_by g.script base notes) (told_by g.script e) (noted_by g.script base (notes ++ record { lists = q.lists; byte = b; stays = stays } ∷ [])) b table step.at noted)
+        subst (λ z. IsTablePlace t z (noted_by g.script base (notes ++ record { update = q.update; byte = b; stays = stays } ∷ []))) (sym (target e q h))
+        (place_next t (row / g.width) class (noted_by g.script base notes) (told_by g.script e) (noted_by g.script base (notes ++ record { update = q.update; byte = b; stays = stays } ∷ [])) b table step.at noted)
 
-    pub goes_quiet : (state : ℕ) (registers : List (List Symbol)) (piece : List ℕ) (i : ℕ) → i < length piece → b ≡ get_or piece i 0 → b < 256 → class ≡ class_at t.classes b → Goes t state registers piece i (row / g.width) (noted_by g.script base notes) [] [] → Goes t state registers piece (i + 1) (q.row / g.width) (noted_by g.script base (notes ++ record { lists = q.lists; byte = b; stays = stays } ∷ [])) [] []
+    pub goes_quiet : (state : ℕ) (registers : List (List Symbol)) (piece : List ℕ) (i : ℕ) → i < length piece → b ≡ get_or piece i 0 → b < 256 → class ≡ class_at t.classes b → Goes t state registers piece i (row / g.width) (noted_by g.script base notes) [] [] → Goes t state registers piece (i + 1) (q.row / g.width) (noted_by g.script base (notes ++ record { update = q.update; byte = b; stays = stays } ∷ [])) [] []
     goes_quiet state registers piece i less is byte of f =
         let e = entry_at g.script (row / g.width) class in
         let regs = noted_by g.script base notes in
-        let regs' = noted_by g.script base (notes ++ record { lists = q.lists; byte = b; stays = stays } ∷ []) in
+        let regs' = noted_by g.script base (notes ++ record { update = q.update; byte = b; stays = stays } ∷ []) in
         subst (λ z. Goes t state registers piece (i + 1) z regs' [] []) (sym (target e q h))
         (goes_next t state registers piece i (row / g.width) regs [] [] b less is (told_by g.script e) regs' [] (next_by_class t (row / g.width) b class table byte of ∙ step.at) noted (ap (λ z. parts_code regs b z) (sym (step.update.silent.0 h.silent))) f)
 
@@ -100,14 +100,14 @@ module _ (t : Transducer) (g : Guide) (table : IsTable t) (script : IsScriptOf g
     abbrev quiet : ℕ → Quiet
     quiet b = quiet_at g.quiets.items t.classes row b
 
-    after_more : (rest : List ℕ) (n : ℕ) → n < length rest → noted_by g.script base ((notes ++ staying g.quiets.items t.classes row (take n rest)) ++ record { lists = (quiet (get_or rest n 0)).lists; byte = get_or rest n 0; stays = true } ∷ []) ≡ after (take (n + 1) rest)
+    after_more : (rest : List ℕ) (n : ℕ) → n < length rest → noted_by g.script base ((notes ++ staying g.quiets.items t.classes row (take n rest)) ++ record { update = (quiet (get_or rest n 0)).update; byte = get_or rest n 0; stays = true } ∷ []) ≡ after (take (n + 1) rest)
     after_more rest n less =
         let run : List ℕ → List NotedUpdate = λ bytes. staying g.quiets.items t.classes row bytes in
         let b = get_or rest n 0 in
-        let note : NotedUpdate = record { lists = (quiet b).lists; byte = b; stays = true } in
+        let note : NotedUpdate = record { update = (quiet b).update; byte = b; stays = true } in
         ap (λ z. noted_by g.script base z)
         (append_assoc notes (run (take n rest)) (note ∷ [])
-        ∙ ap (λ z. notes ++ z) (sym (ap run (take_more rest n 0 less) ∙ map_push (λ x. record { lists = (quiet x).lists; byte = x; stays = true }) (take n rest) b)))
+        ∙ ap (λ z. notes ++ z) (sym (ap run (take_more rest n 0 less) ∙ map_push (λ x. record { update = (quiet x).update; byte = x; stays = true }) (take n rest) b)))
 
     after_none : noted_by g.script base notes ≡ after []
     after_none = ap (λ z. noted_by g.script base z) (sym (append-nil notes))
@@ -115,7 +115,7 @@ module _ (t : Transducer) (g : Guide) (table : IsTable t) (script : IsScriptOf g
     told_of : (b : ℕ) → StaysAt g.quiets.items t.classes row b → IsQuiet (entry_at g.script (row / g.width) (class_at t.classes b)) g.width (length g.quiets.items) (quiet b)
     told_of b stays =
         let lt : class_at t.classes b < g.width = omega (arith, stays.0, guide.wide) in
-        told row (class_at t.classes b) (quiet b) whole lt (slice_get-get_or g.quiets.items (row + class_at t.classes b) (record { row = 0; lists = 0 }) (omega (arith, lt, inside))) (λ e. some (sym stays.1 ∙ e))
+        told row (class_at t.classes b) (quiet b) whole lt (slice_get-get_or g.quiets.items (row + class_at t.classes b) (record { row = 0; update = 0 }) (omega (arith, lt, inside))) (λ e. some (sym stays.1 ∙ e))
 
     module _ (state : ℕ) (registers : List (List Symbol)) (piece rest : List ℕ) (i : ℕ) (fits : i + length rest ≤ length piece) (at : (k : ℕ) → k < length rest → get_or rest k 0 ≡ get_or piece (i + k) 0) (bytes : (k : ℕ) → k < length rest → get_or rest k 0 < 256) where
       pub stays_on : (n : ℕ) → n ≤ length rest → ((k : ℕ) → k < n → StaysAt g.quiets.items t.classes row (get_or rest k 0)) → IsTablePlace t (row / g.width) (noted_by g.script base notes) → Goes t state registers piece i (row / g.width) (noted_by g.script base notes) [] []
@@ -134,7 +134,7 @@ module _ (t : Transducer) (g : Guide) (table : IsTable t) (script : IsScriptOf g
           let h = told_of b stays in
           let ns = notes ++ staying g.quiets.items t.classes row (take n rest) in
           let on : n + 1 ≡ suc n = omega arith in
-          let there : noted_by g.script base (ns ++ record { lists = q.lists; byte = b; stays = true } ∷ []) ≡ after (take (suc n) rest) = after_more rest n less ∙ ap (λ z. after (take z rest)) on in
+          let there : noted_by g.script base (ns ++ record { update = q.update; byte = b; stays = true } ∷ []) ≡ after (take (suc n) rest) = after_more rest n less ∙ ap (λ z. after (take z rest)) on in
           let back : q.row / g.width ≡ row / g.width = ap (λ z. z / g.width) stays.1 in
           let placed = place_quiet base ns row class b true q h stays.0 so_far.0 in
           let gone = goes_quiet base ns row class b true q h stays.0 state registers piece (i + n) (omega (arith, fits, less)) (at n less) (bytes n less) refl so_far.1 in

@@ -15,14 +15,14 @@ use Rattle.kex_runner.proofs.ByteSteps.{place_next}
 
 -- the transition that an entry tells
 abbrev pub told_by : Sheet → Entry → Transition
-told_by s e = record { target = e.target; update = change_at s e.lists }
+told_by s e = record { target = e.target; update = change_at s e.update }
 
 pub record IsStep (s : Sheet) (t : Transducer) (state class : ℕ) (e : Entry) : Type 0 where
   pub at : transition_of t state class ≡ Some (told_by s e)
-  pub update : HasUpdate s e e.target (change_at s e.lists)
+  pub update : HasUpdate s e e.target (change_at s e.update)
 
-own_update : (s : Sheet) (e : Entry) (to : ℕ) (u : Change) → HasUpdate s e to u → HasUpdate s e e.target (change_at s e.lists)
-own_update s e to u h = subst (λ z. HasUpdate s e z (change_at s e.lists)) (sym h.target) (subst (λ z. HasUpdate s e to z) (sym h.update) h)
+own_update : (s : Sheet) (e : Entry) (to : ℕ) (u : Change) → HasUpdate s e to u → HasUpdate s e e.target (change_at s e.update)
+own_update s e to u h = subst (λ z. HasUpdate s e z (change_at s e.update)) (sym h.target) (subst (λ z. HasUpdate s e to z) (sym h.update) h)
 
 step_from : (s : Sheet) (t : Transducer) (state class : ℕ) (e : Entry) (o : Option Transition) → transition_of t state class ≡ o → IsEntryOf s e o → e.goes ≡ true → IsStep s t state class e
 step_from s t state class e None is h goes = let bad : ⊥ = false_true (sym h ∙ goes) in absurd bad
@@ -54,7 +54,7 @@ no_step s t state class e h lt is stops = none (transition_of t state class) (th
     none None k = refl
     none (Some r) k = let bad : ⊥ = true_false (sym k.goes ∙ stops) in absurd bad
 
-pub runner_next : (t : Transducer) (s : Sheet) (state class b : ℕ) (e : Entry) (r r' : Registers) → IsRunner t s state r → IsStep s t state class e → contents s r' ≡ next_registers (change_at s e.lists) b (contents s r) → r'.count ≡ length (contents s r') → IsRunner t s e.target r'
+pub runner_next : (t : Transducer) (s : Sheet) (state class b : ℕ) (e : Entry) (r r' : Registers) → IsRunner t s state r → IsStep s t state class e → contents s r' ≡ next_registers (change_at s e.update) b (contents s r) → r'.count ≡ length (contents s r') → IsRunner t s e.target r'
 runner_next t s state class b e r r' h k f n = record {
   sound = record { table = h.sound.table; place = place_next t state class (contents s r) (told_by s e) (contents s r') b h.sound.table k.at f };
   script = h.script;
@@ -62,10 +62,10 @@ runner_next t s state class b e r r' h k f n = record {
 }
 
 -- before the first byte
-pub begins : (s : Sheet) (t : Transducer) → IsScriptOf s t → HasUpdate s s.initial s.initial.target (change_at s s.initial.lists)
+pub begins : (s : Sheet) (t : Transducer) → IsScriptOf s t → HasUpdate s s.initial s.initial.target (change_at s s.initial.update)
 begins s t h = own_update s s.initial 0 t.initial h.initial
 
-pub registers_begun : (s : Sheet) (t : Transducer) (registers none : List (List Symbol)) → IsScriptOf s t → none ≡ [] → registers ≡ next_registers (change_at s s.initial.lists) 0 none → registers ≡ (first_pass t.initial).registers
+pub registers_begun : (s : Sheet) (t : Transducer) (registers none : List (List Symbol)) → IsScriptOf s t → none ≡ [] → registers ≡ next_registers (change_at s s.initial.update) 0 none → registers ≡ (first_pass t.initial).registers
 registers_begun s t registers none h e f = f ∙ ap₂ (λ y z. next_registers y 0 z) h.initial.update e
 
 -- what is told stands behind more

@@ -16,7 +16,7 @@ use Rattle.kex_runner.specs.declared.ways.Split.{Split}
 use Rattle.kex_runner.specs.declared.ways.WayStart.{WayStart}
 use Rattle.kex_runner.specs.declared.ways.WayStep.{WayStep}
 use Rattle.kex_runner.specs.declared.ways.Ways.{Ways}
-use Rattle.kex_runner.specs.declared.walking.WalkPoint.{WalkPoint}
+use Rattle.kex_runner.specs.declared.history.walking.WalkPoint.{WalkPoint}
 use Rattle.kex_script.specs.Pieces.{code_over}
 use Rattle.kex_runner.specs.Noting.{ByteUpdate, next_registers, registers_after}
 use Rattle.kex_runner.specs.Ways.{AreOlds, composition, split_in, IsNumberedWay, IsSplit, IsStart, IsWayStep, IsStepIf, AreKnown, HasWalked}
@@ -62,23 +62,23 @@ way_kept ways ways' n way k h = record { at = k n way h.at; each = h.each }
 split_kept : (words ways ways' : List (List Part)) (x : Split) (list : List Part) → KeepsItems ways ways' → IsSplit words ways x list → IsSplit words ways' x list
 split_kept words ways ways' x list k h = record { front = h.front; way = way_kept ways ways' x.way h.front k h.way; parts = h.parts; word = h.word; plain = h.plain; joined = h.joined }
 
-step_kept : (s : Sheet) (ways ways' : List (List Part)) (number lists : ℕ) (x : Split) → KeepsItems ways ways' → IsWayStep s ways number lists x → IsWayStep s ways' number lists x
-step_kept s ways ways' number lists x k h = record { from = h.from; way = way_kept ways ways' number h.from k h.way; split = split_kept s.words ways ways' x (composition (change_at s lists) h.from) k h.split }
+step_kept : (s : Sheet) (ways ways' : List (List Part)) (number update : ℕ) (x : Split) → KeepsItems ways ways' → IsWayStep s ways number update x → IsWayStep s ways' number update x
+step_kept s ways ways' number update x k h = record { from = h.from; way = way_kept ways ways' number h.from k h.way; split = split_kept s.words ways ways' x (composition (change_at s update) h.from) k h.split }
 
 starts_kept : (s : Sheet) (ways ways' : List (List Part)) → KeepsItems ways ways' → (xs : List WayStart) → All (IsStart s ways) xs → All (IsStart s ways') xs
 starts_kept s ways ways' k xs h = All-weaker (IsStart s ways) (IsStart s ways') (λ x g some. IfSome_then x.split (g some) (λ y h. split_kept s.words ways ways' y (list_at s x.list) k h)) xs h
 
 steps_kept : (s : Sheet) (ways ways' : List (List Part)) → KeepsItems ways ways' → (xs : List WayStep) → All (IsStepIf s ways) xs → All (IsStepIf s ways') xs
-steps_kept s ways ways' k xs h = All-weaker (IsStepIf s ways) (IsStepIf s ways') (λ x g. IfSome_then (split_in x) g (λ y st. step_kept s ways ways' x.from x.lists y k st)) xs h
+steps_kept s ways ways' k xs h = All-weaker (IsStepIf s ways) (IsStepIf s ways') (λ x g. IfSome_then (split_in x) g (λ y st. step_kept s ways ways' x.from x.update y k st)) xs h
 
 -- more ways, and starts and steps that are so
 pub known_more : (s : Sheet) (w w' : Ways) → KeepsItems w.lists w'.lists → AreKnown s w → (All (IsStart s w'.lists) w.starts.items → All (IsStart s w'.lists) w'.starts.items) → (All (IsStepIf s w'.lists) w.steps.items → All (IsStepIf s w'.lists) w'.steps.items) → AreKnown s w'
 known_more s w w' k h f g = record { none = k 0 [] h.none; starts = f (starts_kept s w.lists w'.lists k w.starts.items h.starts); steps = g (steps_kept s w.lists w'.lists k w.steps.items h.steps) }
 
 -- a step back
-module _ (s : Sheet) (ways ways' : List (List Part)) (notes : List ByteUpdate) (from : List Part) (p p' : WalkPoint) (lists : ℕ) (x : Split) (d n : ByteUpdate) (first old new : List ByteWord) where
-  pub walked_on : KeepsItems ways ways' → p.after ≡ suc p'.after → p'.way ≡ x.way → n ≡ get_or notes p'.after d → n.update ≡ change_at s lists
-      → IsWayStep s ways' p.way lists x
+module _ (s : Sheet) (ways ways' : List (List Part)) (notes : List ByteUpdate) (from : List Part) (p p' : WalkPoint) (update : ℕ) (x : Split) (d n : ByteUpdate) (first old new : List ByteWord) where
+  pub walked_on : KeepsItems ways ways' → p.after ≡ suc p'.after → p'.way ≡ x.way → n ≡ get_or notes p'.after d → n.update ≡ change_at s update
+      → IsWayStep s ways' p.way update x
       → ((words : List (List Part)) (w : List Part) → IsWord words x.word w → code_over words new ≡ parts_code [] n.byte w ++ code_over words old)
       → HasWalked s ways notes from p first old → HasWalked s ways' notes from p' first new
   walked_on k e same at u st said h =
@@ -97,7 +97,7 @@ module _ (s : Sheet) (ways ways' : List (List Part)) (notes : List ByteUpdate) (
             ∙ ap (λ z. parts_code z 0 st.from) (registers_more base notes p'.after d (omega (arith, h.after, e)))
             ∙ ap (λ z. parts_code (next_registers z.update z.byte regs) 0 st.from) (sym at)
             ∙ ap (λ z. parts_code (next_registers z n.byte regs) 0 st.from) u
-            ∙ composed_means (change_at s lists) regs n.byte 0 st.from st.way.each
+            ∙ composed_means (change_at s update) regs n.byte 0 st.from st.way.each
             ∙ ap (λ z. parts_code regs n.byte z) st.split.joined
             ∙ parts_code-append regs n.byte to st.split.parts
             ∙ ap₂ (λ y z. y ++ z) (any_byte regs n.byte 0 to st.split.way.each) (meant_fresh regs [] n.byte st.split.parts st.split.plain) in
@@ -138,22 +138,22 @@ word_said words word w number byte n old new e same more is =
     ∙ ap (λ z. parts_code [] byte z ++ code_over words old) (get_or_from_slice_get words number w [] at)
 
 -- a step that is kept, if it says what the way was
-pub step_said : (o : Option Split) (steps : List WayStep) (number lists : ℕ) → ((s : Sheet) (ways : List (List Part)) → All (IsStepIf s ways) steps → IfSome o (λ y. IsWayStep s ways number lists y)) → IfSome o (λ x. (s : Sheet) (ways : List (List Part)) → All (IsStepIf s ways) steps → IsWayStep s ways number lists x)
-step_said None steps number lists h = tt
-step_said (Some x) steps number lists h = h
+pub step_said : (o : Option Split) (steps : List WayStep) (number update : ℕ) → ((s : Sheet) (ways : List (List Part)) → All (IsStepIf s ways) steps → IfSome o (λ y. IsWayStep s ways number update y)) → IfSome o (λ x. (s : Sheet) (ways : List (List Part)) → All (IsStepIf s ways) steps → IsWayStep s ways number update x)
+step_said None steps number update h = tt
+step_said (Some x) steps number update h = h
 
 -- what was found of a way before an update
-pub step_is : (s : Sheet) (words ways ways' : List (List Part)) (number lists : ℕ) (o : Option Split) (from parts : List Part) → words ≡ s.words → KeepsItems ways ways' → IsNumberedWay ways number from → parts ≡ composition (change_at s lists) from → IfSome o (λ x. IsSplit words ways' x parts) → IfSome o (λ x. IsWayStep s ways' number lists x)
-step_is s words ways ways' number lists o from parts e k h is st = IfSome_then o st (λ x st. record {
+pub step_is : (s : Sheet) (words ways ways' : List (List Part)) (number update : ℕ) (o : Option Split) (from parts : List Part) → words ≡ s.words → KeepsItems ways ways' → IsNumberedWay ways number from → parts ≡ composition (change_at s update) from → IfSome o (λ x. IsSplit words ways' x parts) → IfSome o (λ x. IsWayStep s ways' number update x)
+step_is s words ways ways' number update o from parts e k h is st = IfSome_then o st (λ x st. record {
   from = from;
   way = way_kept ways ways' number from k h;
   split = subst (λ z. IsSplit s.words ways' x z) is (subst (λ z. IsSplit z ways' x parts) e st);
 })
 
 -- a step that holds it
-pub step_if : (s : Sheet) (ways : List (List Part)) (number lists : ℕ) (o : Option Split) (x : WayStep) → x.from ≡ number → x.lists ≡ lists → split_in x ≡ o → IfSome o (λ y. IsWayStep s ways number lists y) → IsStepIf s ways x
-step_if s ways number lists o x from to is h =
-    subst (λ z. IfSome z (λ y. IsWayStep s ways x.from x.lists y)) (sym is) (subst (λ z. IfSome o (λ y. IsWayStep s ways x.from z y)) (sym to) (subst (λ z. IfSome o (λ y. IsWayStep s ways z lists y)) (sym from) h))
+pub step_if : (s : Sheet) (ways : List (List Part)) (number update : ℕ) (o : Option Split) (x : WayStep) → x.from ≡ number → x.update ≡ update → split_in x ≡ o → IfSome o (λ y. IsWayStep s ways number update y) → IsStepIf s ways x
+step_if s ways number update o x from to is h =
+    subst (λ z. IfSome z (λ y. IsWayStep s ways x.from x.update y)) (sym is) (subst (λ z. IfSome o (λ y. IsWayStep s ways x.from z y)) (sym to) (subst (λ z. IfSome o (λ y. IsWayStep s ways z update y)) (sym from) h))
 
 -- a list that is a way and a word
 pub split_means : (s : Sheet) (regs : List (List Symbol)) (ways : List (List Part)) (x : Split) (byte : ℕ) (list : List Part) (none behind : List ByteWord) → (st : IsSplit s.words ways x list)

@@ -1,4 +1,5 @@
 pub mod Noting
+pub mod Histories
 pub mod Looking
 pub mod Ways
 pub mod Items

@@ -9,8 +9,8 @@ use Rattle.kex_sst.specs.Parts.{parts_code}
 use Rattle.kex_script.specs.declared.piece.ByteWord.{ByteWord}
 use Rattle.kex_script.specs.Scripts.{Sheet, list_at}
 use Rattle.kex_runner.specs.Noting.{ByteUpdate, registers_after, spelled_back}
-use Rattle.kex_runner.specs.declared.reading.Reading.{Reading}
-use Rattle.kex_runner.specs.declared.reading.Unread.{Unread}
+use Rattle.kex_runner.specs.declared.history.reading.Reading.{Reading}
+use Rattle.kex_runner.specs.declared.history.reading.Unread.{Unread}
 
 -- what an unread list stands for
 abbrev pub unread_code : Sheet → List (List Symbol) → List ByteUpdate → Unread → List Symbol

@@ -7,7 +7,7 @@ use Rattle.kex_sst.specs.Parts.{Change, parts_code}
 use Rattle.kex_script.specs.declared.piece.ByteWord.{ByteWord}
 use Rattle.kex_script.specs.Pieces.{code_over}
 use Rattle.kex_script.specs.Scripts.{Sheet, change_at}
-use Rattle.kex_runner.specs.declared.reading.NotedUpdate.{NotedUpdate}
+use Rattle.kex_runner.specs.declared.history.NotedUpdate.{NotedUpdate}
 use Rattle.kex_runner.specs.declared.registers.Registers.{Registers}
 
 -- an update, and the byte that was read
@@ -34,7 +34,7 @@ settled_of s base = map (λ ps. spelled_back s.words ps) base
 
 -- the update that a note names
 abbrev pub update_of : Sheet → NotedUpdate → ByteUpdate
-update_of s n = record { update = change_at s n.lists; byte = n.byte }
+update_of s n = record { update = change_at s n.update; byte = n.byte }
 
 abbrev pub updates_of : Sheet → List NotedUpdate → List ByteUpdate
 updates_of s notes = map (λ n. update_of s n) notes

@@ -8,14 +8,14 @@ use Rattle.kex_script.specs.declared.script.Entry.{Entry}
 use Rattle.kex_script.specs.Scripts.{Sheet, entry_at}
 use Rattle.kex_runner.specs.declared.quiet.Quiet.{Quiet}
 use Rattle.kex_runner.specs.declared.quiet.Guide.{Guide}
-use Rattle.kex_runner.specs.declared.reading.NotedUpdate.{NotedUpdate}
+use Rattle.kex_runner.specs.declared.history.NotedUpdate.{NotedUpdate}
 
--- an entry is quiet, and this tells its lists, and where the row of its target begins, within so
+-- an entry is quiet, and this tells its update, and where the row of its target begins, within so
 -- many places
 pub record IsQuiet (e : Entry) (width count : ℕ) (q : Quiet) : Type 0 where
   pub goes : e.goes ≡ true
   pub silent : e.silent ≡ true
-  pub lists : q.lists ≡ e.lists
+  pub update : q.update ≡ e.update
   pub row : q.row ≡ e.target * width
   pub within : q.row + width ≤ count
 
@@ -39,7 +39,7 @@ pub record IsGuide (t : Transducer) (g : Guide) : Type 0 where
 
 -- what is told for a byte in a row
 abbrev pub quiet_at : List Quiet → List ℕ → ℕ → ℕ → Quiet
-quiet_at qs classes row b = get_or qs (row + class_at classes b) (record { row = 0; lists = 0 })
+quiet_at qs classes row b = get_or qs (row + class_at classes b) (record { row = 0; update = 0 })
 
 -- it leads back to the row
 abbrev pub StaysAt : List Quiet → List ℕ → ℕ → ℕ → Type 0
@@ -49,4 +49,4 @@ StaysAt qs classes row b = (class_at classes b < class_count classes)
 -- the updates that a row tells for some bytes, noted as such that stay
 abbrev pub staying : List Quiet → List ℕ → ℕ → List ℕ → List NotedUpdate
 staying qs classes row bytes =
-    map (λ b. record { lists = (quiet_at qs classes row b).lists; byte = b; stays = true }) bytes
+    map (λ b. record { update = (quiet_at qs classes row b).update; byte = b; stays = true }) bytes

@@ -15,7 +15,7 @@ use Rattle.kex_runner.specs.declared.ways.WayStep.{WayStep}
 use Rattle.kex_runner.specs.declared.ways.Form.{Form}
 use Rattle.kex_runner.specs.declared.ways.Form.TheVariants.{Said, Mute, Other}
 use Rattle.kex_runner.specs.declared.ways.Ways.{Ways}
-use Rattle.kex_runner.specs.declared.walking.WalkPoint.{WalkPoint}
+use Rattle.kex_runner.specs.declared.history.walking.WalkPoint.{WalkPoint}
 
 abbrev pub IsOld : Part → Type 0
 IsOld (Put s) = ⊥
@@ -62,15 +62,15 @@ abbrev pub split_in : WayStep → Option Split
 split_in x = split_by x x.form
 
 -- what a way was before an update
-pub record IsWayStep (s : Sheet) (ways : List (List Part)) (number lists : ℕ)
+pub record IsWayStep (s : Sheet) (ways : List (List Part)) (number update : ℕ)
     (x : Split) : Type 0 where
   pub from : List Part
   pub way : IsNumberedWay ways number from
-  pub split : IsSplit s.words ways x (composition (change_at s lists) from)
+  pub split : IsSplit s.words ways x (composition (change_at s update) from)
 
 -- the same, if it is said
 abbrev pub IsStepIf : Sheet → List (List Part) → WayStep → Type 0
-IsStepIf s ways x = IfSome (split_in x) (λ y. IsWayStep s ways x.from x.lists y)
+IsStepIf s ways x = IfSome (split_in x) (λ y. IsWayStep s ways x.from x.update y)
 
 -- this is kept of a list, where it has a place
 abbrev pub HasStart : List WayStart → ℕ → Option Split → Type 0
@@ -79,8 +79,8 @@ HasStart starts list x = list < length starts
 
 -- this is kept of a way with that last register before an update, where it has a place
 abbrev pub HasStep : List WayStep → ℕ → ℕ → ℕ → Option Split → Type 0
-HasStep steps way last lists x = lists + last < length steps → (step : WayStep)
-    × (slice_get steps (lists + last) ≡ Some step) × (step.from ≡ way) × (step.lists ≡ lists)
+HasStep steps way last update x = update + last < length steps → (step : WayStep)
+    × (slice_get steps (update + last) ≡ Some step) × (step.from ≡ way) × (step.update ≡ update)
     × (split_in step ≡ x)
 
 -- what is known of ways is so, over a script

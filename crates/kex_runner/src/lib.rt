@@ -22,12 +22,12 @@
 #![tactic(auto)]
 
 mod answers;
+mod history;
+mod place;
 mod quiet;
-mod reading;
 mod registers;
 pub mod runner;
 mod spelling;
-mod walking;
 mod ways;
 
 pub use answers::{Applied, Ended, Fed};

@@ -5,19 +5,23 @@ ghost use Rattle.kex_script.specs.Scripts.{IsScriptOf};
 ghost use Rattle.kex_runner.specs.Quiet.{AreQuiet, IsGuide, IsQuietIf};
 
 use kex_code::memory::Memory;
+use kex_script::ids::UpdateId;
 use kex_script::script::{Entry, Script};
 use kex_sst::table::Table;
 use std::alloc::Global;
 
-/// Where no row begins.
-pub const NOWHERE: u32 = u32::MAX;
+/// A row of quiet updates, by where it begins.
+pub type QuietRow = u32;
 
-/// What a state does on a class of bytes, where its update is quiet: where the row of its target
-/// begins, and which lists it has.
+/// No row begins here.
+pub const NOWHERE: QuietRow = u32::MAX;
+
+/// What a state does on a class of bytes, where its update is quiet: the row of its target, and the
+/// update.
 #[derive(Clone, Copy, Debug, PartialEq, Eq)]
 pub struct Quiet {
-    pub row: u32,
-    pub lists: u32,
+    pub row: QuietRow,
+    pub update: UpdateId,
 }
 
 /// A script, and its quiet updates: of each state a row, by class. A row is 2 to the power of
@@ -40,12 +44,12 @@ fn quiet_of(entry: Entry, width: usize, count: usize) -> Quiet
     if entry.goes && entry.silent && entry.registers > 0 && row + width <= count {
         return Quiet {
             row: row as u32,
-            lists: entry.lists,
+            update: entry.update,
         };
     }
     Quiet {
         row: NOWHERE,
-        lists: 0,
+        update: 0,
     }
 }
 

@@ -10,21 +10,24 @@ ghost use Rattle.kex_byteset.specs.Classes.{class_count};
 ghost use Rattle.kex_sst.specs.Parts.{item_count, long_in, parts_code, value};
 ghost use Rattle.kex_script.specs.Pieces.{code_over};
 ghost use Rattle.kex_script.specs.Scripts.{HasUpdate, Sheet, change_at};
-ghost use Rattle.kex_runner.specs.Noting.{contents, next_registers, noted_by, settled_of};
+ghost use Rattle.kex_runner.specs.Histories.{contents_after};
+ghost use Rattle.kex_runner.specs.Noting.{contents, next_registers, settled_of};
 ghost use Rattle.kex_runner.specs.Following.{Follows, IsRunner};
 ghost use Rattle.kex_runner.specs.Quiet.{IsGuide, StaysAt, quiet_at, staying};
 ghost use Rattle.kex_runner.specs.Ways.{AreKnown};
 
+use crate::history::reading::Reading;
+use crate::history::walking::Scratch;
+use crate::history::{History, NotedUpdate, Settled};
 use crate::quiet::{Guide, NOWHERE, Quiet};
-use crate::reading::{NotedUpdate, Reading, Settled, read_register};
 use crate::spelling::spell;
-use crate::walking::pass_list;
 use crate::ways::Ways;
 use kex_byteset::Partition;
 use kex_code::code::Code;
 use kex_code::memory::Memory;
 use kex_code::symbol::Symbol;
 use kex_ports::Steps;
+use kex_script::ids::UpdateId;
 use kex_script::piece::ByteWord;
 use kex_script::script::{Entry, Script};
 use kex_sst::parts::{Part, Update};
@@ -50,9 +53,7 @@ pub struct Registers {
     notes: Vec<NotedUpdate>,
     count: usize,
     limit: usize,
-    reading: Reading,
-    // Room for what is said.
-    room: Vec<ByteWord>,
+    scratch: Scratch,
 }
 
 // The pieces of a register, as they were read.
@@ -67,21 +68,19 @@ fn settled_pieces(alloc: Global, back: &[ByteWord]) -> Result<Settled, Memory>
 // The first so many registers, each looked up. None where they come to more pieces than so many.
 fn settled(
     alloc: Global,
-    script: &Script,
-    base: &[Settled],
-    notes: &[NotedUpdate],
+    history: &History,
     count: usize,
     most: usize,
     reading: &mut Reading,
 ) -> Result<Option<Vec<Settled>>, Memory>
-    requires { count ≡ length (noted_by script.now base.now notes.now) }
-    ensures { IfOk result (λ o. IfSome o (λ all. settled_of script.now all.items
-        ≡ noted_by script.now base.now notes.now)) }
+    requires { count ≡ length (contents_after history.now) }
+    ensures { IfOk result (λ o. IfSome o (λ all. settled_of history.now.script.now all.items
+        ≡ contents_after history.now)) }
 {
     let mut all = Vec::new(alloc);
     let mut left = most;
     for i in 0..count {
-        read_register(script, base, notes, i, reading)?;
+        history.read_register(i, reading)?;
         let pieces = reading.back.len();
         if pieces > left {
             return Ok(None);
@@ -142,7 +141,7 @@ fn stay(
             break;
         }
         notes.push_reserved(NotedUpdate {
-            lists: told.lists,
+            update: told.update,
             byte,
             stays: true,
         });
@@ -194,11 +193,7 @@ impl Registers {
             notes: Vec::new(alloc),
             count: 0,
             limit: LEAST,
-            reading: Reading {
-                pending: Vec::new(alloc),
-                back: Vec::new(alloc),
-            },
-            room: Vec::new(alloc),
+            scratch: Scratch::new(alloc),
         }
     }
 
@@ -227,18 +222,16 @@ impl Registers {
         ensures count { self.new.count ≡ self.old.count }
     {
         let kept = pieces_in(&self.base).saturating_add(self.notes.len());
-        let settled = settled(
-            self.alloc,
+        let history = History {
             script,
-            &self.base,
-            &self.notes,
-            self.count,
-            kept / 2,
-            &mut self.reading,
-        )?;
+            base: &self.base,
+            notes: &self.notes,
+        };
+        let reading = &mut self.scratch.reading;
+        let settled = settled(self.alloc, &history, self.count, kept / 2, reading)?;
         let Some(base) = settled else {
             // What was read in vain goes: it may be long.
-            self.reading.back = Vec::new(self.alloc);
+            self.scratch.reading.back = Vec::new(self.alloc);
             self.limit = self.notes.len().saturating_mul(2).max(LEAST);
             return Ok(());
         };
@@ -266,10 +259,10 @@ impl Registers {
     #[inline(always)]
     fn note(&mut self, script: &Script, entry: Entry, byte: u8) -> Result<(), Memory>
         requires entry { HasUpdate script.now entry entry.target
-            (change_at script.now entry.lists) }
+            (change_at script.now entry.update) }
         requires counted { self.old.count ≡ length (contents script.now self.old) }
         ensures registers { OnOk result (contents script.now self.new ≡ next_registers
-            (change_at script.now entry.lists) byte (contents script.now self.old)) }
+            (change_at script.now entry.update) byte (contents script.now self.old)) }
         ensures kept { OnErr result (contents script.now self.new ≡ contents script.now self.old) }
         ensures counted { self.new.count ≡ length (contents script.now self.new) }
     {
@@ -279,7 +272,7 @@ impl Registers {
         }
         self.make_room(script)?;
         let note = NotedUpdate {
-            lists: entry.lists,
+            update: entry.update,
             byte,
             stays: false,
         };
@@ -297,7 +290,7 @@ impl Registers {
         &mut self,
         script: &Script,
         ways: &mut Ways,
-        lists: u32,
+        update: UpdateId,
         byte: u8,
         pieces: &mut Vec<ByteWord>,
     ) -> Result<(), Memory>
@@ -305,21 +298,17 @@ impl Registers {
         ensures known { OnOk result (AreKnown script.now ways.new) }
         ensures pieces { OnOk result (code_over script.now.words pieces.new.items
             ≡ code_over script.now.words pieces.old.items
-            ++ parts_code (contents script.now self.old) byte (change_at script.now lists).out) }
+            ++ parts_code (contents script.now self.old) byte (change_at script.now update).out) }
         ensures same { contents script.now self.new ≡ contents script.now self.old }
         ensures count { self.new.count ≡ self.old.count }
     {
-        pass_list(
+        let history = History {
             script,
-            ways,
-            &self.base,
-            &self.notes,
-            script.passed(lists),
-            byte,
-            &mut self.reading,
-            &mut self.room,
-            pieces,
-        )
+            base: &self.base,
+            notes: &self.notes,
+        };
+        let list = script.passed(update);
+        history.pass_list(ways, list, byte, &mut self.scratch, pieces)
     }
 
     /// Does an update: what it passes on is put behind pieces. Its registers are only noted.
@@ -334,19 +323,19 @@ impl Registers {
     ) -> Result<(), Memory>
         requires known { AreKnown script.now ways.old }
         requires entry { HasUpdate script.now entry entry.target
-            (change_at script.now entry.lists) }
+            (change_at script.now entry.update) }
         requires counted { self.old.count ≡ length (contents script.now self.old) }
         ensures known { OnOk result (AreKnown script.now ways.new) }
         ensures registers { OnOk result (contents script.now self.new ≡ next_registers
-            (change_at script.now entry.lists) byte (contents script.now self.old)) }
+            (change_at script.now entry.update) byte (contents script.now self.old)) }
         ensures pieces { OnOk result (code_over script.now.words pieces.new.items
             ≡ code_over script.now.words pieces.old.items ++ parts_code
-            (contents script.now self.old) byte (change_at script.now entry.lists).out) }
+            (contents script.now self.old) byte (change_at script.now entry.update).out) }
         ensures kept { OnErr result (contents script.now self.new ≡ contents script.now self.old) }
         ensures counted { self.new.count ≡ length (contents script.now self.new) }
     {
         if !entry.silent {
-            self.pass(script, ways, entry.lists, byte, pieces)?;
+            self.pass(script, ways, entry.update, byte, pieces)?;
         }
         self.note(script, entry, byte)
     }
@@ -386,7 +375,7 @@ impl Registers {
                 break;
             }
             notes.push_reserved(NotedUpdate {
-                lists: quiet.lists,
+                update: quiet.update,
                 byte,
                 stays: false,
             });
@@ -442,9 +431,15 @@ impl Registers {
         ensures same { contents script.now self.new ≡ contents script.now self.old }
         ensures count { self.new.count ≡ self.old.count }
     {
-        read_register(script, &self.base, &self.notes, register, &mut self.reading)?;
-        self.reading.back.reverse();
-        spell(script.words(), &self.reading.back, code)
+        let history = History {
+            script,
+            base: &self.base,
+            notes: &self.notes,
+        };
+        let reading = &mut self.scratch.reading;
+        history.read_register(register, reading)?;
+        reading.back.reverse();
+        spell(script.words(), &reading.back, code)
     }
 
     // What a part stands for goes to the end of a code.

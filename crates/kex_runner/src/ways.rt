@@ -1,5 +1,7 @@
 // Ways: old registers one behind the other, and what they were before an update.
 
+pub mod ids;
+
 ghost use Rattle.std.specs.Prelude.{◌≡◌, ◌+◌, ◌^◌, ◌<◌, ◌≤◌, ◌++◌, ◌∷◌, [], List, All, IsTrue};
 ghost use Rattle.std.specs.Prelude.{IfOk, IfSome, OnOk, length, drop, false, true, get_or, Some};
 ghost use Rattle.kex_sst.specs.declared.parts.Part.{Part};
@@ -9,7 +11,9 @@ ghost use Rattle.kex_script.specs.Scripts.{IsWord, Sheet, change_at, list_at};
 ghost use Rattle.kex_runner.specs.Ways.{AreKnown, AreOlds, HasStart, HasStep, IsSplit, IsStart};
 ghost use Rattle.kex_runner.specs.Ways.{IsWayStep, IsStepIf, IsNumberedWay, composition, split_in};
 
+use crate::ways::ids::{ShortWordId, WayId};
 use kex_code::memory::Memory;
+use kex_script::ids::{ListId, UpdateId};
 use kex_script::interned::Interned;
 use kex_script::script::Script;
 use kex_sst::parts::{Part, Parts, are_same};
@@ -25,15 +29,15 @@ const NEAR: usize = 1 << 16;
 /// A list is a way, and then a word or none. `last` is the way's last register.
 #[derive(Clone, Copy, Debug, PartialEq, Eq)]
 pub struct Split {
-    pub way: u16,
+    pub way: WayId,
     pub last: u32,
-    pub word: Option<u16>,
+    pub word: Option<ShortWordId>,
 }
 
 /// What a list of the script is, if it is a way and a word. List 0 is none.
 #[derive(Clone, Copy, Debug, PartialEq, Eq)]
 pub struct WayStart {
-    pub list: u32,
+    pub list: ListId,
     pub split: Option<Split>,
 }
 
@@ -49,11 +53,11 @@ pub enum Form {
 /// them. Plain numbers, since one is read for each note.
 #[derive(Clone, Copy, Debug, PartialEq, Eq)]
 pub struct WayStep {
-    pub lists: u32,
+    pub update: UpdateId,
     pub last: u32,
-    pub from: u16,
-    pub way: u16,
-    pub word: u16,
+    pub from: WayId,
+    pub way: WayId,
+    pub word: ShortWordId,
     pub form: Form,
 }
 
@@ -106,7 +110,7 @@ fn word_start(parts: &[Part]) -> usize
 }
 
 // The number of a word, or none for no parts; nothing where it is none of the words.
-fn word_number(words: &[Parts], word: &[Part]) -> Option<Option<u16>>
+fn word_number(words: &[Parts], word: &[Part]) -> Option<Option<ShortWordId>>
     ensures { IfSome result (λ n. IsWord words.now n word.now) }
 {
     if word.is_empty() {
@@ -164,13 +168,13 @@ pub fn split_of(
 }
 
 // A part is put behind parts, an old register as what an update gives it.
-fn put(script: &Script, lists: u32, part: Part, parts: &mut Vec<Part>) -> Result<(), Memory>
+fn put(script: &Script, update: UpdateId, part: Part, parts: &mut Vec<Part>) -> Result<(), Memory>
     ensures { OnOk result (parts.new.items
-        ≡ parts.old.items ++ composition (change_at script.now lists) (part ∷ [])) }
+        ≡ parts.old.items ++ composition (change_at script.now update) (part ∷ [])) }
 {
     match part {
         Part::Old(register) => {
-            let list = script.list(script.given(lists, register as usize));
+            let list = script.list(script.given(update, register as usize));
             parts.extend_from_slice(list)?;
             Ok(())
         }
@@ -186,22 +190,27 @@ fn put(script: &Script, lists: u32, part: Part, parts: &mut Vec<Part>) -> Result
 }
 
 // What a way was before an update.
-fn compose(script: &Script, lists: u32, way: &[Part], parts: &mut Vec<Part>) -> Result<(), Memory>
-    ensures { OnOk result (parts.new.items ≡ composition (change_at script.now lists) way.now) }
+fn compose(
+    script: &Script,
+    update: UpdateId,
+    way: &[Part],
+    parts: &mut Vec<Part>,
+) -> Result<(), Memory>
+    ensures { OnOk result (parts.new.items ≡ composition (change_at script.now update) way.now) }
 {
     parts.clear();
     for part in way {
-        put(script, lists, *part, parts)?;
+        put(script, update, *part, parts)?;
     }
     Ok(())
 }
 
 // Where the step of a way with this last register is kept: each way of a state has its own.
 #[inline(always)]
-fn place_of(last: u32, lists: u32) -> usize
-    ensures { result ≡ lists + last }
+fn place_of(last: u32, update: UpdateId) -> usize
+    ensures { result ≡ update + last }
 {
-    lists as usize + last as usize
+    update as usize + last as usize
 }
 
 impl WayStep {
@@ -209,8 +218,8 @@ impl WayStep {
     ghost use Rattle.kex_runner.specs.Ways.{split_in};
 
     // What a way was before an update.
-    fn new(from: u16, lists: u32, split: Option<Split>) -> WayStep
-        ensures { (result.from ≡ from) × (result.lists ≡ lists) × (split_in result ≡ split) }
+    fn new(from: WayId, update: UpdateId, split: Option<Split>) -> WayStep
+        ensures { (result.from ≡ from) × (result.update ≡ update) × (split_in result ≡ split) }
     {
         let (split, word, form) = match split {
             None => (
@@ -228,7 +237,7 @@ impl WayStep {
             },
         };
         WayStep {
-            lists,
+            update,
             last: split.last,
             from,
             way: split.way,
@@ -260,13 +269,13 @@ impl WayStep {
 
 // The step of a way before an update, if it is kept.
 #[inline(always)]
-fn kept(steps: &[WayStep], way: u16, last: u32, lists: u32) -> Option<WayStep>
+fn kept(steps: &[WayStep], way: WayId, last: u32, update: UpdateId) -> Option<WayStep>
     ensures step { IfSome result (λ x. (s : Sheet) (ways : List (List Part)) → All
-        (IsStepIf s ways) steps.now → IfSome (split_in x) (λ y. IsWayStep s ways way lists y)) }
-    ensures kept { IfSome result (λ x. HasStep steps.now way last lists (split_in x)) }
+        (IsStepIf s ways) steps.now → IfSome (split_in x) (λ y. IsWayStep s ways way update y)) }
+    ensures kept { IfSome result (λ x. HasStep steps.now way last update (split_in x)) }
 {
-    let step = *steps.get(place_of(last, lists))?;
-    if step.from == way && step.lists == lists {
+    let step = *steps.get(place_of(last, update))?;
+    if step.from == way && step.update == update {
         Some(step)
     } else {
         None
@@ -275,11 +284,11 @@ fn kept(steps: &[WayStep], way: u16, last: u32, lists: u32) -> Option<WayStep>
 
 /// What a way was before an update, as a way and a word, if that is known.
 #[inline(always)]
-pub fn known_step(steps: &[WayStep], way: u16, last: u32, lists: u32) -> Option<Split>
+pub fn known_step(steps: &[WayStep], way: WayId, last: u32, update: UpdateId) -> Option<Split>
     ensures { IfSome result (λ x. (s : Sheet) (ways : List (List Part))
-        → All (IsStepIf s ways) steps.now → IsWayStep s ways way lists x) }
+        → All (IsStepIf s ways) steps.now → IsWayStep s ways way update x) }
 {
-    kept(steps, way, last, lists)?.split()
+    kept(steps, way, last, update)?.split()
 }
 
 impl Ways {
@@ -306,7 +315,7 @@ impl Ways {
     }
 
     /// The parts of a way.
-    pub fn way(&self, way: u16) -> &[Part]
+    pub fn way(&self, way: WayId) -> &[Part]
         ensures { result.now ≡ get_or self.now.lists way [] }
     {
         self.lists.list(u32::from(way))
@@ -322,7 +331,7 @@ impl Ways {
 
     // What is known of a list.
     #[inline(always)]
-    fn known_start(&self, list: u32) -> Option<WayStart>
+    fn known_start(&self, list: ListId) -> Option<WayStart>
         requires { 0 < list }
         ensures split { IfSome result (λ x. (s : Sheet) → AreKnown s self.now
             → IfSome x.split (λ y. IsSplit s.words self.now.lists y (list_at s list))) }
@@ -338,7 +347,7 @@ impl Ways {
 
     // A list as a way and a word, if it is that.
     #[inline(never)]
-    fn learn_start(&mut self, script: &Script, list: u32) -> Result<Option<Split>, Memory>
+    fn learn_start(&mut self, script: &Script, list: ListId) -> Result<Option<Split>, Memory>
         requires known { AreKnown script.now self.old }
         ensures known { OnOk result (AreKnown script.now self.new) }
         ensures split { IfOk result (λ o.
@@ -357,7 +366,7 @@ impl Ways {
 
     /// A list as a way and a word, if it is that.
     #[inline(always)]
-    pub fn start(&mut self, script: &Script, list: u32) -> Result<Option<Split>, Memory>
+    pub fn start(&mut self, script: &Script, list: ListId) -> Result<Option<Split>, Memory>
         requires known { AreKnown script.now self.old }
         ensures known { OnOk result (AreKnown script.now self.new) }
         ensures split { IfOk result (λ o.
@@ -379,28 +388,28 @@ impl Ways {
     fn learn_step(
         &mut self,
         script: &Script,
-        way: u16,
+        way: WayId,
         last: u32,
-        lists: u32,
+        update: UpdateId,
     ) -> Result<Option<Split>, Memory>
         requires known { AreKnown script.now self.old }
         requires way { (from : List Part) × IsNumberedWay self.old.lists way from }
         ensures known { OnOk result (AreKnown script.now self.new) }
         ensures kept { OnOk result (KeepsItems self.old.lists self.new.lists) }
         ensures step { IfOk result (λ o.
-            IfSome o (λ x. IsWayStep script.now self.new.lists way lists x)) }
-        ensures learnt { IfOk result (λ o. HasStep self.new.steps.items way last lists o) }
+            IfSome o (λ x. IsWayStep script.now self.new.lists way update x)) }
+        ensures learnt { IfOk result (λ o. HasStep self.new.steps.items way last update o) }
     {
         compose(
             script,
-            lists,
+            update,
             self.lists.list(u32::from(way)),
             &mut self.parts,
         )?;
         let split = split_of(script.words(), &mut self.lists, &self.parts)?;
-        let place = place_of(last, lists);
+        let place = place_of(last, update);
         if place < self.steps.len() {
-            self.steps[place] = WayStep::new(way, lists, split);
+            self.steps[place] = WayStep::new(way, update, split);
         }
         Ok(split)
     }
@@ -409,9 +418,9 @@ impl Ways {
     pub fn step(
         &mut self,
         script: &Script,
-        way: u16,
+        way: WayId,
         last: u32,
-        lists: u32,
+        update: UpdateId,
     ) -> Result<Option<Split>, Memory>
         requires known { AreKnown script.now self.old }
         requires way { (from : List Part) × IsNumberedWay self.old.lists way from }
@@ -419,12 +428,12 @@ impl Ways {
         ensures known { OnOk result (AreKnown script.now self.new) }
         ensures kept { OnOk result (KeepsItems self.old.lists self.new.lists) }
         ensures step { IfOk result (λ o.
-            IfSome o (λ x. IsWayStep script.now self.new.lists way lists x)) }
-        ensures learnt { IfOk result (λ o. HasStep self.new.steps.items way last lists o) }
+            IfSome o (λ x. IsWayStep script.now self.new.lists way update x)) }
+        ensures learnt { IfOk result (λ o. HasStep self.new.steps.items way last update o) }
     {
-        match kept(&self.steps, way, last, lists) {
+        match kept(&self.steps, way, last, update) {
             Some(step) => Ok(step.split()),
-            None => self.learn_step(script, way, last, lists),
+            None => self.learn_step(script, way, last, update),
         }
     }
 }

@@ -1,39 +1,62 @@
 // Looking up by ways: back through the notes, a step for each.
 
 ghost use Rattle.std.specs.Prelude.{◌≡◌, ◌≢◌, ◌+◌, ◌-◌, ◌≤◌, ◌<◌, ◌++◌, ◌∷◌, [], List, All, IfOk};
-ghost use Rattle.std.specs.Prelude.{IfSome, OnOk, length, get_or, slice_get, take, drop, reverse};
+ghost use Rattle.std.specs.Prelude.{IfSome, OnOk, length, slice_get, drop, reverse};
 ghost use Rattle.kex_sst.specs.declared.parts.Part.{Part};
 ghost use Rattle.kex_sst.specs.Parts.{parts_code, value};
 ghost use Rattle.kex_script.specs.declared.piece.ByteWord.{ByteWord};
 ghost use Rattle.kex_script.specs.Pieces.{code_over};
 ghost use Rattle.kex_script.specs.Scripts.{IsWord, Sheet, list_at};
-ghost use Rattle.kex_runner.specs.Noting.{noted_by, registers_after, settled_of, spelled_back};
-ghost use Rattle.kex_runner.specs.Noting.{updates_of};
+ghost use Rattle.kex_runner.specs.Histories.{contents_after, contents_at, noted_in};
+ghost use Rattle.kex_runner.specs.Noting.{spelled_back, updates_of};
 ghost use Rattle.kex_runner.specs.Ways.{AreKnown, AreOlds, HasWalked, IsSplit, IsWayStep, IsStepIf};
 ghost use Rattle.kex_runner.specs.Ways.{IsNumberedWay};
 
-use crate::reading::{NotedUpdate, Reading, Settled, ask, look_up, read_list};
+use crate::history::reading::Reading;
+use crate::history::{History, NotedUpdate};
+use crate::ways::ids::{ShortWordId, WayId};
 use crate::ways::{Split, WayStep, Ways, known_step};
 use kex_code::memory::Memory;
+use kex_script::ids::{ListId, UpdateId};
 use kex_script::piece::ByteWord;
-use kex_script::script::Script;
 use kex_sst::parts::Part;
+use std::alloc::Global;
 use std::mem;
 
 /// A way over what the registers were after so many notes, and where the pieces begin that stand
 /// behind it.
 #[derive(Clone, Copy)]
 pub struct WalkPoint {
-    pub way: u16,
+    pub way: WayId,
     pub last: u32,
     pub after: usize,
     pub start: usize,
 }
 
+/// What look-ups use, kept for the next: what lists are read by, and room for what is said.
+#[derive(Drop)]
+pub struct Scratch {
+    pub reading: Reading,
+    pub room: Vec<ByteWord>,
+}
+
+impl Scratch {
+    /// With nothing in it.
+    pub fn new(alloc: Global) -> Scratch {
+        Scratch {
+            reading: Reading {
+                pending: Vec::new(alloc),
+                back: Vec::new(alloc),
+            },
+            room: Vec::new(alloc),
+        }
+    }
+}
+
 // A word is put before the pieces that begin at a place, if there is one. Tells where they begin
 // then.
 #[inline(always)]
-fn say(word: Option<u16>, byte: u8, room: &mut [ByteWord], start: usize) -> usize
+fn say(word: Option<ShortWordId>, byte: u8, room: &mut [ByteWord], start: usize) -> usize
     requires some { 0 < start }
     requires within { start ≤ length room.old }
     ensures said { (words : List (List Part)) (w : List Part) → IsWord words word w
@@ -59,7 +82,7 @@ fn say(word: Option<u16>, byte: u8, room: &mut [ByteWord], start: usize) -> usiz
 #[inline(always)]
 fn stay(
     split: Split,
-    lists: u32,
+    update: UpdateId,
     notes: &[NotedUpdate],
     first: WalkPoint,
     room: &mut [ByteWord],
@@ -69,18 +92,18 @@ fn stay(
     requires within { first.start ≤ length room.old }
     ensures after { result.after ≤ first.after }
     ensures other { 0 < result.after
-        → IfSome (slice_get notes.now (result.after - 1)) (λ n. n.lists ≢ lists) }
+        → IfSome (slice_get notes.now (result.after - 1)) (λ n. n.update ≢ update) }
     ensures room { result.after ≤ result.start }
     ensures within { result.start ≤ length room.new }
     ensures walked { (s : Sheet) (ways : List (List Part)) (way : List Part) (x : List ByteWord)
-        → split.way ≡ first.way → IsWayStep s ways first.way lists split
+        → split.way ≡ first.way → IsWayStep s ways first.way update split
         → HasWalked s ways (updates_of s notes.now) way first x (drop first.start room.old)
         → HasWalked s ways (updates_of s notes.now) way result x (drop result.start room.new) }
 {
     let mut place = first;
     'notes: while place.after > 0 {
         let note = notes[place.after - 1];
-        if note.lists != lists {
+        if note.update != update {
             break;
         }
         let start = say(split.word, note.byte, room, place.start);
@@ -115,7 +138,7 @@ fn walk_known(
     let mut place = first;
     'notes: while place.after > 0 {
         let note = notes[place.after - 1];
-        let Some(split) = known_step(steps, place.way, place.last, note.lists) else {
+        let Some(split) = known_step(steps, place.way, place.last, note.update) else {
             return place;
         };
         let start = say(split.word, note.byte, room, place.start);
@@ -127,98 +150,10 @@ fn walk_known(
             start,
         };
         if stays {
-            place = stay(split, note.lists, notes, place, room);
+            place = stay(split, note.update, notes, place, room);
         }
     }
     place
-}
-
-// Goes back along notes, as far as what the way was is a way, and learns what it was.
-fn walk(
-    script: &Script,
-    ways: &mut Ways,
-    notes: &[NotedUpdate],
-    first: WalkPoint,
-    room: &mut [ByteWord],
-) -> Result<WalkPoint, Memory>
-    requires known { AreKnown script.now ways.old }
-    requires way { (to : List Part) × IsNumberedWay ways.old.lists first.way to }
-    requires after { first.after ≤ length notes.now }
-    requires room { first.after ≤ first.start }
-    requires within { first.start ≤ length room.old }
-    ensures known { OnOk result (AreKnown script.now ways.new) }
-    ensures way { IfOk result (λ p. (to : List Part) × IsNumberedWay ways.new.lists p.way to) }
-    ensures after { IfOk result (λ p. p.after ≤ length notes.now) }
-    ensures within { IfOk result (λ p. p.start ≤ length room.new) }
-    ensures walked { IfOk result (λ p. (from : List Part) (x : List ByteWord)
-        → HasWalked script.now ways.old.lists (updates_of script.now notes.now) from first x
-        (drop first.start room.old) → HasWalked script.now ways.new.lists
-        (updates_of script.now notes.now) from p x (drop p.start room.new)) }
-{
-    let mut place = first;
-    'notes: while place.after > 0 && place.way != 0 {
-        let note = notes[place.after - 1];
-        let Some(split) = ways.step(script, place.way, place.last, note.lists)? else {
-            return Ok(place);
-        };
-        let start = say(split.word, note.byte, room, place.start);
-        place = WalkPoint {
-            way: split.way,
-            last: split.last,
-            after: place.after - 1,
-            start,
-        };
-    }
-    Ok(place)
-}
-
-// Reads a part of a way, over what the registers were after so many notes.
-fn read_old(
-    script: &Script,
-    base: &[Settled],
-    notes: &[NotedUpdate],
-    after: usize,
-    part: Part,
-    reading: &mut Reading,
-) -> Result<(), Memory>
-    requires { after ≤ length notes.now }
-    ensures { OnOk result (AreOlds (part ∷ [])
-        → spelled_back script.now.words reading.new.back.items ≡ value (registers_after
-        (settled_of script.now base.now) (take after (updates_of script.now notes.now))) 0 part
-        ++ spelled_back script.now.words reading.old.back.items) }
-{
-    reading.pending.clear();
-    match part {
-        Part::Put(_) => Ok(()),
-        Part::Input => Ok(()),
-        Part::Old(register) => {
-            let first = ask(script, base, notes, after, register as usize, reading)?;
-            look_up(script, base, notes, first, reading)
-        }
-    }
-}
-
-// Reads a way from its end.
-fn read_way(
-    script: &Script,
-    base: &[Settled],
-    notes: &[NotedUpdate],
-    after: usize,
-    way: &[Part],
-    reading: &mut Reading,
-) -> Result<(), Memory>
-    requires after { after ≤ length notes.now }
-    requires olds { AreOlds way.now }
-    ensures { OnOk result (spelled_back script.now.words reading.new.back.items
-        ≡ parts_code (registers_after (settled_of script.now base.now) (take after (updates_of
-        script.now notes.now))) 0 way.now ++ spelled_back script.now.words reading.old.back.items) }
-{
-    let mut left = way.len();
-    while left > 0 {
-        read_old(script, base, notes, after, way[left - 1], reading)?;
-        left -= 1;
-    }
-    Ok(())
 }
 
 // What was read is put behind pieces, in its order. Where there are none it isn't copied.
@@ -232,122 +167,6 @@ fn hand_on(back: &mut Vec<ByteWord>, pieces: &mut Vec<ByteWord>) -> Result<(), M
     }
     pieces.extend_from_slice(back)?;
     Ok(())
-}
-
-// Puts behind pieces what a list stands for, which is read from its end.
-#[inline(never)]
-fn pass_read(
-    script: &Script,
-    base: &[Settled],
-    notes: &[NotedUpdate],
-    list: u32,
-    byte: u8,
-    reading: &mut Reading,
-    pieces: &mut Vec<ByteWord>,
-) -> Result<(), Memory>
-    ensures { OnOk result (code_over script.now.words pieces.new.items
-        ≡ code_over script.now.words pieces.old.items
-        ++ parts_code (noted_by script.now base.now notes.now) byte (list_at script.now list)) }
-{
-    read_list(script, base, notes, list, byte, reading)?;
-    hand_on(&mut reading.back, pieces)
-}
-
-// Puts behind pieces what a way stands for after so many notes, and then what was said.
-#[inline(never)]
-fn pass_way(
-    script: &Script,
-    base: &[Settled],
-    notes: &[NotedUpdate],
-    after: usize,
-    way: &[Part],
-    said: &[ByteWord],
-    reading: &mut Reading,
-    pieces: &mut Vec<ByteWord>,
-) -> Result<(), Memory>
-    requires after { after ≤ length notes.now }
-    requires olds { AreOlds way.now }
-    ensures { OnOk result (code_over script.now.words pieces.new.items
-        ≡ code_over script.now.words pieces.old.items ++ (parts_code (registers_after
-        (settled_of script.now base.now) (take after (updates_of script.now notes.now))) 0 way.now
-        ++ code_over script.now.words said.now)) }
-{
-    reading.back.clear();
-    reading.back.extend_from_slice(said)?;
-    reading.back.reverse();
-    read_way(script, base, notes, after, way, reading)?;
-    hand_on(&mut reading.back, pieces)
-}
-
-// Puts behind pieces what a way and the pieces behind it stand for.
-#[inline(never)]
-fn pass_rest(
-    script: &Script,
-    ways: &mut Ways,
-    base: &[Settled],
-    notes: &[NotedUpdate],
-    first: WalkPoint,
-    reading: &mut Reading,
-    room: &mut [ByteWord],
-    pieces: &mut Vec<ByteWord>,
-) -> Result<(), Memory>
-    requires known { AreKnown script.now ways.old }
-    requires way { (to : List Part) × IsNumberedWay ways.old.lists first.way to }
-    requires after { first.after ≤ length notes.now }
-    requires room { first.after ≤ first.start }
-    requires within { first.start ≤ length room.old }
-    ensures known { OnOk result (AreKnown script.now ways.new) }
-    ensures passed { OnOk result ((from : List Part) (x : List ByteWord) → HasWalked script.now
-        ways.old.lists (updates_of script.now notes.now) from first x (drop first.start room.old)
-        → code_over script.now.words pieces.new.items
-        ≡ code_over script.now.words pieces.old.items ++ (parts_code
-        (noted_by script.now base.now notes.now) 0 from ++ code_over script.now.words x)) }
-{
-    let place = walk(script, ways, notes, first, room)?;
-    let said = &room[place.start..];
-    if place.way == 0 {
-        pieces.extend_from_slice(said)?;
-        return Ok(());
-    }
-    let way = ways.way(place.way);
-    pass_way(script, base, notes, place.after, way, said, reading, pieces)
-}
-
-// Puts behind pieces what a way and a word stand for.
-fn pass_split(
-    script: &Script,
-    ways: &mut Ways,
-    base: &[Settled],
-    notes: &[NotedUpdate],
-    split: Split,
-    byte: u8,
-    reading: &mut Reading,
-    room: &mut [ByteWord],
-    pieces: &mut Vec<ByteWord>,
-) -> Result<(), Memory>
-    requires known { AreKnown script.now ways.old }
-    requires split { (list : List Part) × IsSplit script.now.words ways.old.lists split list }
-    requires room { length notes.now < length room.old }
-    ensures known { OnOk result (AreKnown script.now ways.new) }
-    ensures passed { OnOk result ((list : List Part)
-        → IsSplit script.now.words ways.old.lists split list
-        → code_over script.now.words pieces.new.items ≡ code_over script.now.words pieces.old.items
-        ++ parts_code (noted_by script.now base.now notes.now) byte list) }
-{
-    let end = room.len();
-    let start = say(split.word, byte, room, end);
-    let first = WalkPoint {
-        way: split.way,
-        last: split.last,
-        after: notes.len(),
-        start,
-    };
-    let place = walk_known(ways.steps(), notes, first, room);
-    if place.way == 0 {
-        pieces.extend_from_slice(&room[place.start..])?;
-        return Ok(());
-    }
-    pass_rest(script, ways, base, notes, place, reading, room, pieces)
 }
 
 // Makes room for so many pieces.
@@ -370,29 +189,211 @@ fn make_room(room: &mut Vec<ByteWord>, count: usize) -> Result<(), Memory>
     Ok(())
 }
 
-/// Puts behind pieces what a list stands for, by ways where it is one.
-pub fn pass_list(
-    script: &Script,
-    ways: &mut Ways,
-    base: &[Settled],
-    notes: &[NotedUpdate],
-    list: u32,
-    byte: u8,
-    reading: &mut Reading,
-    room: &mut Vec<ByteWord>,
-    pieces: &mut Vec<ByteWord>,
-) -> Result<(), Memory>
-    requires known { AreKnown script.now ways.old }
-    ensures known { OnOk result (AreKnown script.now ways.new) }
-    ensures passed { OnOk result (code_over script.now.words pieces.new.items
-        ≡ code_over script.now.words pieces.old.items
-        ++ parts_code (noted_by script.now base.now notes.now) byte (list_at script.now list)) }
-{
-    let Some(split) = ways.start(script, list)? else {
-        return pass_read(script, base, notes, list, byte, reading, pieces);
-    };
-    make_room(room, notes.len() + 1)?;
-    pass_split(
-        script, ways, base, notes, split, byte, reading, room, pieces,
-    )
+impl<'h> History<'h> {
+    // Goes back along notes, as far as what the way was is a way, and learns what it was.
+    fn walk(
+        &self,
+        ways: &mut Ways,
+        first: WalkPoint,
+        room: &mut [ByteWord],
+    ) -> Result<WalkPoint, Memory>
+        requires known { AreKnown self.now.script.now ways.old }
+        requires way { (to : List Part) × IsNumberedWay ways.old.lists first.way to }
+        requires after { first.after ≤ length self.now.notes.now }
+        requires room { first.after ≤ first.start }
+        requires within { first.start ≤ length room.old }
+        ensures known { OnOk result (AreKnown self.now.script.now ways.new) }
+        ensures way { IfOk result (λ p. (to : List Part) × IsNumberedWay ways.new.lists p.way to) }
+        ensures after { IfOk result (λ p. p.after ≤ length self.now.notes.now) }
+        ensures within { IfOk result (λ p. p.start ≤ length room.new) }
+        ensures walked { IfOk result (λ p. (from : List Part) (x : List ByteWord)
+            → HasWalked self.now.script.now ways.old.lists (noted_in self.now) from first x
+            (drop first.start room.old) → HasWalked self.now.script.now ways.new.lists
+            (noted_in self.now) from p x (drop p.start room.new)) }
+    {
+        let mut place = first;
+        'notes: while place.after > 0 && place.way != 0 {
+            let note = self.notes[place.after - 1];
+            let Some(split) = ways.step(self.script, place.way, place.last, note.update)? else {
+                return Ok(place);
+            };
+            let start = say(split.word, note.byte, room, place.start);
+            place = WalkPoint {
+                way: split.way,
+                last: split.last,
+                after: place.after - 1,
+                start,
+            };
+        }
+        Ok(place)
+    }
+
+    // Reads a part of a way, over what the registers were after so many notes.
+    fn read_old(&self, after: usize, part: Part, reading: &mut Reading) -> Result<(), Memory>
+        requires { after ≤ length self.now.notes.now }
+        ensures { OnOk result (AreOlds (part ∷ [])
+            → spelled_back self.now.script.now.words reading.new.back.items
+            ≡ value (contents_at self.now after) 0 part
+            ++ spelled_back self.now.script.now.words reading.old.back.items) }
+    {
+        reading.pending.clear();
+        match part {
+            Part::Put(_) => Ok(()),
+            Part::Input => Ok(()),
+            Part::Old(register) => {
+                let first = self.ask(after, register as usize, reading)?;
+                self.look_up(first, reading)
+            }
+        }
+    }
+
+    // Reads a way from its end.
+    fn read_way(&self, after: usize, way: &[Part], reading: &mut Reading) -> Result<(), Memory>
+        requires after { after ≤ length self.now.notes.now }
+        requires olds { AreOlds way.now }
+        ensures { OnOk result (spelled_back self.now.script.now.words reading.new.back.items
+            ≡ parts_code (contents_at self.now after) 0 way.now
+            ++ spelled_back self.now.script.now.words reading.old.back.items) }
+    {
+        let mut left = way.len();
+        while left > 0 {
+            self.read_old(after, way[left - 1], reading)?;
+            left -= 1;
+        }
+        Ok(())
+    }
+
+    // Puts behind pieces what a list stands for, which is read from its end.
+    #[inline(never)]
+    fn pass_read(
+        &self,
+        list: ListId,
+        byte: u8,
+        reading: &mut Reading,
+        pieces: &mut Vec<ByteWord>,
+    ) -> Result<(), Memory>
+        ensures { OnOk result (code_over self.now.script.now.words pieces.new.items
+            ≡ code_over self.now.script.now.words pieces.old.items
+            ++ parts_code (contents_after self.now) byte (list_at self.now.script.now list)) }
+    {
+        self.read_list(list, byte, reading)?;
+        hand_on(&mut reading.back, pieces)
+    }
+
+    // Puts behind pieces what a way stands for after so many notes, and then what was said.
+    #[inline(never)]
+    fn pass_way(
+        &self,
+        after: usize,
+        way: &[Part],
+        said: &[ByteWord],
+        reading: &mut Reading,
+        pieces: &mut Vec<ByteWord>,
+    ) -> Result<(), Memory>
+        requires after { after ≤ length self.now.notes.now }
+        requires olds { AreOlds way.now }
+        ensures { OnOk result (code_over self.now.script.now.words pieces.new.items
+            ≡ code_over self.now.script.now.words pieces.old.items
+            ++ (parts_code (contents_at self.now after) 0 way.now
+            ++ code_over self.now.script.now.words said.now)) }
+    {
+        reading.back.clear();
+        reading.back.extend_from_slice(said)?;
+        reading.back.reverse();
+        self.read_way(after, way, reading)?;
+        hand_on(&mut reading.back, pieces)
+    }
+
+    // Puts behind pieces what a way and the pieces behind it stand for.
+    #[inline(never)]
+    fn pass_rest(
+        &self,
+        ways: &mut Ways,
+        first: WalkPoint,
+        reading: &mut Reading,
+        room: &mut [ByteWord],
+        pieces: &mut Vec<ByteWord>,
+    ) -> Result<(), Memory>
+        requires known { AreKnown self.now.script.now ways.old }
+        requires way { (to : List Part) × IsNumberedWay ways.old.lists first.way to }
+        requires after { first.after ≤ length self.now.notes.now }
+        requires room { first.after ≤ first.start }
+        requires within { first.start ≤ length room.old }
+        ensures known { OnOk result (AreKnown self.now.script.now ways.new) }
+        ensures passed { OnOk result ((from : List Part) (x : List ByteWord)
+            → HasWalked self.now.script.now ways.old.lists (noted_in self.now) from first x
+            (drop first.start room.old)
+            → code_over self.now.script.now.words pieces.new.items
+            ≡ code_over self.now.script.now.words pieces.old.items
+            ++ (parts_code (contents_after self.now) 0 from
+            ++ code_over self.now.script.now.words x)) }
+    {
+        let place = self.walk(ways, first, room)?;
+        let said = &room[place.start..];
+        if place.way == 0 {
+            pieces.extend_from_slice(said)?;
+            return Ok(());
+        }
+        let way = ways.way(place.way);
+        self.pass_way(place.after, way, said, reading, pieces)
+    }
+
+    // Puts behind pieces what a way and a word stand for.
+    fn pass_split(
+        &self,
+        ways: &mut Ways,
+        split: Split,
+        byte: u8,
+        scratch: &mut Scratch,
+        pieces: &mut Vec<ByteWord>,
+    ) -> Result<(), Memory>
+        requires known { AreKnown self.now.script.now ways.old }
+        requires split { (list : List Part)
+            × IsSplit self.now.script.now.words ways.old.lists split list }
+        requires room { length self.now.notes.now < length scratch.old.room.items }
+        ensures known { OnOk result (AreKnown self.now.script.now ways.new) }
+        ensures passed { OnOk result ((list : List Part)
+            → IsSplit self.now.script.now.words ways.old.lists split list
+            → code_over self.now.script.now.words pieces.new.items
+            ≡ code_over self.now.script.now.words pieces.old.items
+            ++ parts_code (contents_after self.now) byte list) }
+    {
+        let room = scratch.room.as_mut_slice();
+        let end = room.len();
+        let start = say(split.word, byte, room, end);
+        let first = WalkPoint {
+            way: split.way,
+            last: split.last,
+            after: self.notes.len(),
+            start,
+        };
+        let place = walk_known(ways.steps(), self.notes, first, room);
+        if place.way == 0 {
+            pieces.extend_from_slice(&room[place.start..])?;
+            return Ok(());
+        }
+        self.pass_rest(ways, place, &mut scratch.reading, room, pieces)
+    }
+
+    /// Puts behind pieces what a list stands for, by ways where it is one.
+    pub fn pass_list(
+        &self,
+        ways: &mut Ways,
+        list: ListId,
+        byte: u8,
+        scratch: &mut Scratch,
+        pieces: &mut Vec<ByteWord>,
+    ) -> Result<(), Memory>
+        requires known { AreKnown self.now.script.now ways.old }
+        ensures known { OnOk result (AreKnown self.now.script.now ways.new) }
+        ensures passed { OnOk result (code_over self.now.script.now.words pieces.new.items
+            ≡ code_over self.now.script.now.words pieces.old.items
+            ++ parts_code (contents_after self.now) byte (list_at self.now.script.now list)) }
+    {
+        let Some(split) = ways.start(self.script, list)? else {
+            return self.pass_read(list, byte, &mut scratch.reading, pieces);
+        };
+        make_room(&mut scratch.room, self.notes.len() + 1)?;
+        self.pass_split(ways, split, byte, scratch, pieces)
+    }
 }

@@ -7,7 +7,8 @@ ghost use Rattle.kex_script.specs.Pieces.{word_code};
 ghost use Rattle.kex_script.specs.Scripts.{AreLetters};
 ghost use Rattle.kex_runner.specs.Noting.{contents, next_registers, settled_of, spelled_back};
 
-use crate::reading::{Reading, Settled, read_register};
+use crate::history::walking::Scratch;
+use crate::history::{History, Settled};
 use crate::registers::{LEAST, Registers, pieces_in};
 use kex_code::code::Code;
 use kex_code::memory::Memory;
@@ -66,9 +67,14 @@ impl Registers {
             Part::Put(symbol) => say_piece(piece_of(letters, symbol), back),
             Part::Input => say_piece(piece_of(letters, Symbol::Byte(0)), back),
             Part::Old(register) => {
-                let number = register as usize;
-                read_register(script, &self.base, &self.notes, number, &mut self.reading)?;
-                back.extend_from_slice(&self.reading.back)?;
+                let history = History {
+                    script,
+                    base: &self.base,
+                    notes: &self.notes,
+                };
+                let reading = &mut self.scratch.reading;
+                history.read_register(register as usize, reading)?;
+                back.extend_from_slice(&reading.back)?;
                 Ok(())
             }
         }
@@ -129,11 +135,7 @@ impl Registers {
             count: base.len(),
             base,
             notes: Vec::new(self.alloc),
-            reading: Reading {
-                pending: Vec::new(self.alloc),
-                back: Vec::new(self.alloc),
-            },
-            room: Vec::new(self.alloc),
+            scratch: Scratch::new(self.alloc),
         })
     }
 

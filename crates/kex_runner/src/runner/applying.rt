@@ -58,9 +58,10 @@ impl<'t> Runner<'t> {
         self.usable = false;
         spell(self.guide.script.words(), &self.pending, code)?;
         self.pending.clear();
-        self.registers
+        self.place
+            .registers
             .take_series(&self.guide.script, series, code)?;
-        self.state = target;
+        self.place.state = target;
         self.read += bytes;
         self.usable = true;
         Ok(())
@@ -93,7 +94,7 @@ impl<'t> Runner<'t> {
         ensures usable { IsTrue self.new.usable ↔ IsOk result }
     {
         let entries = summary.entries();
-        let course = &entries[self.state as usize];
+        let course = &entries[self.place.state as usize];
         match course {
             Course::Gone(count) => Ok(Applied::Gone(*count)),
             Course::Goes(target, series) => {

@@ -20,8 +20,8 @@ impl<'t> Runner<'t> {
           ended = false;
         } }
     {
-        self.registers.clear();
-        self.state = state;
+        self.place.registers.clear();
+        self.place.state = state;
         self.pending.clear();
         self.read = read;
         self.dead = false;
@@ -33,9 +33,9 @@ impl<'t> Runner<'t> {
     pub fn stands_at(&self, state: u32, read: u64) -> bool
         ensures { IsTrue result → StandsAt self.now state read }
     {
-        self.state == state
+        self.place.state == state
             && self.read == read
-            && self.registers.len() == 0
+            && self.place.registers.len() == 0
             && self.pending.is_empty()
             && !self.dead
     }

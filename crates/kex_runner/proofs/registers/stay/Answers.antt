@@ -4,7 +4,7 @@ use Rattle.std.proofs.lemmas.List.Elements.{All-more}
 use Rattle.std.proofs.lemmas.Option.{slice_get-get_or, slice_get_past}
 use Rattle.kex_byteset.specs.Classes.{class_at, class_count}
 use Rattle.kex_runner.specs.declared.quiet.Quiet.{Quiet}
-use Rattle.kex_runner.specs.declared.reading.NotedUpdate.{NotedUpdate}
+use Rattle.kex_runner.specs.declared.history.NotedUpdate.{NotedUpdate}
 use Rattle.kex_runner.specs.Quiet.{StaysAt, quiet_at, staying}
 use Rattle.kex_runner.proofs.registers.stay.Goals as goal
 
@@ -17,14 +17,14 @@ loop-count-preserved c =
     let classes = c.args.partition.now in
     let row = c.args.row in
     let b = get_or piece count 0 in
-    let none : Quiet = record { row = 0; lists = 0 } in
+    let none : Quiet = record { row = 0; update = 0 } in
     let told : Quiet = get_or qs (row + c.from.result) none in
     let same : told ≡ quiet_at qs classes row b = ap (λ z. get_or qs (row + z) none) (c.from.ensures ∙ c.class_of.ensures.class) in
-    let note : NotedUpdate = record { lists = told.lists; byte = b; stays = true } in
-    let noted : NotedUpdate = record { lists = (quiet_at qs classes row b).lists; byte = b; stays = true } in
-    let alike : note ≡ noted = ap (λ (z : Quiet). record { lists = z.lists; byte = b; stays = true }) same in
+    let note : NotedUpdate = record { update = told.update; byte = b; stays = true } in
+    let noted : NotedUpdate = record { update = (quiet_at qs classes row b).update; byte = b; stays = true } in
+    let alike : note ≡ noted = ap (λ (z : Quiet). record { update = z.update; byte = b; stays = true }) same in
     let run : List ℕ → List NotedUpdate = λ bytes. staying qs classes row bytes in
-    let one = ap run (take_more piece count 0 c.loop-count-test.true) ∙ map_push (λ x. record { lists = (quiet_at qs classes row x).lists; byte = x; stays = true }) (take count piece) b in
+    let one = ap run (take_more piece count 0 c.loop-count-test.true) ∙ map_push (λ x. record { update = (quiet_at qs classes row x).update; byte = x; stays = true }) (take count piece) b in
     let below : class_at classes b < class_count classes = subst (λ z. z < class_count classes) c.class_of.ensures.class c.class_of.ensures.below in
     record {
       count = omega (arith, c.loop-count-test.true);
@@ -39,6 +39,6 @@ returns-after-loop-count-clause-other c =
 
 pub returns-then-told-row-clause-other : goal.returns-then-told-row-clause-other
 returns-then-told-row-clause-other c =
-    let none : Quiet = record { row = 0; lists = 0 } in
+    let none : Quiet = record { row = 0; update = 0 } in
     let same = ap (λ z. get_or c.args.quiets.now (c.args.row + z) none) (c.from.ensures ∙ c.class_of.ensures.class) in
     subst (λ o. IfSome o (λ b. (quiet_at c.args.quiets.now c.args.partition.now c.args.row b).row ≢ c.args.row)) (sym (slice_get-get_or c.args.piece.now c.loop-count.count 0 c.loop-count-test.true)) (λ e. c.if-told-row.true (ap (λ (z : Quiet). z.row) same ∙ e))

@@ -8,5 +8,5 @@ use Rattle.kex_runner.proofs.ways.compose.Goals as goal
 
 pub loop-part-preserved : goal.loop-part-preserved
 loop-part-preserved c =
-    let u = change_at c.args.script.now c.args.lists in
+    let u = change_at c.args.script.now c.args.update in
     c.in_ok-put.ensures ∙ ap (λ z. z ++ composition u (get_or c.args.way.now c.loop-part.part-index (Put L) ∷ [])) c.loop-part.invariant ∙ sym (composed_next u c.args.way.now c.loop-part.part-index (Put L) c.loop-part-test.true)

@@ -4,4 +4,4 @@ use Rattle.kex_runner.specs.Ways.{composition}
 use Rattle.kex_runner.proofs.ways.compose.Given as goal
 
 abbrev pub invariant-loop-part : goal.invariant-loop-part
-invariant-loop-part l = l.parts.items ≡ composition (change_at l.script l.lists) (take l.part-index l.way)
+invariant-loop-part l = l.parts.items ≡ composition (change_at l.script l.update) (take l.part-index l.way)

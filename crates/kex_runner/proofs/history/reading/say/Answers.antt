@@ -4,7 +4,7 @@ use Rattle.kex_sst.specs.Parts.{parts_code}
 use Rattle.kex_script.specs.Scripts.{IsWord}
 use Rattle.kex_runner.specs.Noting.{spelled_back}
 use Rattle.kex_runner.proofs.Pieces.{spelled_back_more}
-use Rattle.kex_runner.proofs.reading.say.Goals as goal
+use Rattle.kex_runner.proofs.history.reading.say.Goals as goal
 
 pub returns-in_ok-push-in-Some : goal.returns-in_ok-push-in-Some
 returns-in_ok-push-in-Some c = λ words w is.

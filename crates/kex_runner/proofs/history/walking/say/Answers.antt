@@ -2,7 +2,7 @@ use Rattle.std.proofs.Common.{◌+◌, ◌-◌, ◌<◌, ◌∙◌, ◌∷◌, l
 use Rattle.std.proofs.lemmas.List.{drop-set, drop-set-lt}
 use Rattle.kex_script.specs.declared.piece.ByteWord.{ByteWord}
 use Rattle.kex_runner.proofs.WayLemmas.{word_said}
-use Rattle.kex_runner.proofs.walking.say.Goals as goal
+use Rattle.kex_runner.proofs.history.walking.say.Goals as goal
 
 pub returns-in-Some-clause-said : goal.returns-in-Some-clause-said
 returns-in-Some-clause-said c = λ words w is.

@@ -4,7 +4,7 @@ use Rattle.kex_script.specs.declared.piece.ByteWord.{ByteWord}
 use Rattle.kex_script.specs.Scripts.{Sheet}
 use Rattle.kex_runner.specs.Noting.{updates_of}
 use Rattle.kex_runner.specs.Ways.{HasWalked, IsStepIf}
-use Rattle.kex_runner.proofs.walking.walk_known.Given as goal
+use Rattle.kex_runner.proofs.history.walking.walk_known.Given as goal
 
 abbrev pub invariant-notes : goal.invariant-notes
 invariant-notes l = record {

@@ -61,7 +61,7 @@ module _ (c : After-push_reserved) where
   all = c.as_slice-quiets.result.now
 
   abbrev none : Quiet
-  none = record { row = 0; lists = 0 }
+  none = record { row = 0; update = 0 }
 
   abbrev quiet : Quiet
   quiet = get_or all (c.quiet.row + c.from.result) none

@@ -10,5 +10,5 @@ pub returns-clause-pieces : goal.returns-clause-pieces
 returns-clause-pieces c =
     let s = c.args.script.now in
     let old = code_over s.words c.args.pieces.now.items in
-    let list = list_at s c.passed.result in
-    on_ok_weaker c.pass_list.result (λ e. e ∙ ap (λ z. old ++ z) (ap₂ (λ y z. parts_code (noted_by s y z) c.args.byte list) c.deref.ensures.value c.deref-2.ensures.value ∙ ap (λ z. parts_code (contents s c.args.self.now) c.args.byte z) c.passed.ensures)) c.pass_list.ensures.passed
+    let list = list_at s c.passed-list.result in
+    on_ok_weaker c.pass_list.result (λ e. e ∙ ap (λ z. old ++ z) (ap₂ (λ y z. parts_code (noted_by s y z) c.args.byte list) c.deref.ensures.value c.deref-2.ensures.value ∙ ap (λ z. parts_code (contents s c.args.self.now) c.args.byte z) c.passed-list.ensures)) c.pass_list.ensures.passed

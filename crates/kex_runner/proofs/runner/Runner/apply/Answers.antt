@@ -19,14 +19,14 @@ bounds-entries-self-inside c =
     let x = c.requires.text.0 in
     let e : c.args.summary.now ≡ sum_of t x = c.requires.text.1 ∙ ap (λ (z : Running). sum_of z.table x) (sym c.self.view_is) in
     let long = ap length (c.entries-entries.ensures.same ∙ ap (λ (z : Sum). z.entries) e) in
-    let lt = entry_there t c.self.inside.state (contents c.self.inside.guide.script c.self.inside.registers) x h.table h.place in
+    let lt = entry_there t c.self.inside.place.state (contents c.self.inside.guide.script c.self.inside.place.registers) x h.table h.place in
     omega (arith, long, lt)
 
 pub go_by-requires-clause-place : goal.go_by-requires-clause-place
 go_by-requires-clause-place c =
     let t = c.self.inside.table.now in
-    let state = c.self.inside.state in
-    let regs = contents c.self.inside.guide.script c.self.inside.registers in
+    let state = c.self.inside.place.state in
+    let regs = contents c.self.inside.guide.script c.self.inside.place.registers in
     let h = c.self.invariant.0.sound in
     let x = c.requires.text.0 in
     let e : c.args.summary.now ≡ sum_of t x = c.requires.text.1 ∙ ap (λ (z : Running). sum_of z.table x) (sym c.self.view_is) in
@@ -41,13 +41,13 @@ go_by-requires-clause-place c =
 pub returns-in-Gone-clause-answer : goal.returns-in-Gone-clause-answer
 returns-in-Gone-clause-answer c =
     let t = c.self.inside.table.now in
-    let state = c.self.inside.state in
+    let state = c.self.inside.place.state in
     let s = c.args.summary.now in
     let h = c.self.invariant.0.sound in
     let x = c.requires.text.0 in
     let e : s ≡ sum_of t x = c.requires.text.1 ∙ ap (λ (z : Running). sum_of z.table x) (sym c.self.view_is) in
     let long = ap length (c.entries-entries.ensures.same ∙ ap (λ (z : Sum). z.entries) e) in
-    let lt = entry_there t state (contents c.self.inside.guide.script c.self.inside.registers) x h.table h.place in
+    let lt = entry_there t state (contents c.self.inside.guide.script c.self.inside.place.registers) x h.table h.place in
     let here : state < length c.entries-entries.result.now = omega (arith, long, lt) in
     let at = course_read s c.entries-entries.result.now state c.index-entries-self.result c.entries-entries.ensures.same c.index-entries-self.is here ∙ ap (λ z. Some z) c.in-Gone.is in
     subst (λ (z : Running). AnswersCourse (slice_get s.entries z.state) (Applied.Gone c.in-Gone.count)) c.self.view_is
@@ -56,13 +56,13 @@ returns-in-Gone-clause-answer c =
 pub returns-in_ok-go_by-in-Goes-clause-answer : goal.returns-in_ok-go_by-in-Goes-clause-answer
 returns-in_ok-go_by-in-Goes-clause-answer c =
     let t = c.self.inside.table.now in
-    let state = c.self.inside.state in
+    let state = c.self.inside.place.state in
     let s = c.args.summary.now in
     let h = c.self.invariant.0.sound in
     let x = c.requires.text.0 in
     let e : s ≡ sum_of t x = c.requires.text.1 ∙ ap (λ (z : Running). sum_of z.table x) (sym c.self.view_is) in
     let long = ap length (c.entries-entries.ensures.same ∙ ap (λ (z : Sum). z.entries) e) in
-    let lt = entry_there t state (contents c.self.inside.guide.script c.self.inside.registers) x h.table h.place in
+    let lt = entry_there t state (contents c.self.inside.guide.script c.self.inside.place.registers) x h.table h.place in
     let here : state < length c.entries-entries.result.now = omega (arith, long, lt) in
     let at = course_read s c.entries-entries.result.now state c.index-entries-self.result c.entries-entries.ensures.same c.index-entries-self.is here ∙ ap (λ z. Some z) c.in-Goes.is in
     subst (λ (z : Running). AnswersCourse (slice_get s.entries z.state) Applied.On) c.self.view_is
@@ -71,7 +71,7 @@ returns-in_ok-go_by-in-Goes-clause-answer c =
 pub returns-in_ok-go_by-in-Goes-clause-on : goal.returns-in_ok-go_by-in-Goes-clause-on
 returns-in_ok-go_by-in-Goes-clause-on c = λ _ x e.
     let script = c.self.inside.guide.script in
-    let r : Running = record { table = c.self.inside.table.now; words = script.words; state = c.self.inside.state; pending = code_over script.words c.self.inside.pending.items; registers = contents script c.self.inside.registers; read = c.self.inside.read; dead = c.self.inside.dead; ended = c.self.inside.ended; usable = c.self.inside.usable } in
+    let r : Running = record { table = c.self.inside.table.now; words = script.words; state = c.self.inside.place.state; pending = code_over script.words c.self.inside.pending.items; registers = contents script c.self.inside.place.registers; read = c.self.inside.read; dead = c.self.inside.dead; ended = c.self.inside.ended; usable = c.self.inside.usable } in
     let s = c.args.summary.now in
     let q = c.in-Goes.target in
     let u = c.in-Goes.series in

@@ -13,7 +13,7 @@ use Rattle.kex_runner.proofs.runner.Runner.end.Goals as goal
 
 pub returns-then-self-clause-over : goal.returns-then-self-clause-over
 returns-then-self-clause-over c =
-    subst (λ z. RunnerEnds Cut z c.args.code.now c.spell.new.code) c.self.view_is (ends_dead (record { table = c.self.inside.table.now; words = c.self.inside.guide.script.words; state = c.self.inside.state; pending = code_over c.self.inside.guide.script.words c.self.inside.pending.items; registers = contents c.self.inside.guide.script c.self.inside.registers; read = c.self.inside.read; dead = c.self.inside.dead; ended = c.self.inside.ended; usable = c.self.inside.usable }) c.args.code.now c.spell.new.code c.if-self.true (c.in_ok-spell.ensures ∙ ap₂ (λ y z. c.args.code.now ++ code_over y z) c.words.ensures c.deref.ensures.value))
+    subst (λ z. RunnerEnds Cut z c.args.code.now c.spell.new.code) c.self.view_is (ends_dead (record { table = c.self.inside.table.now; words = c.self.inside.guide.script.words; state = c.self.inside.place.state; pending = code_over c.self.inside.guide.script.words c.self.inside.pending.items; registers = contents c.self.inside.guide.script c.self.inside.place.registers; read = c.self.inside.read; dead = c.self.inside.dead; ended = c.self.inside.ended; usable = c.self.inside.usable }) c.args.code.now c.spell.new.code c.if-self.true (c.in_ok-spell.ensures ∙ ap₂ (λ y z. c.args.code.now ++ code_over y z) c.words.ensures c.deref.ensures.value))
 
 pub bounds-states-self-inside : goal.bounds-states-self-inside
 bounds-states-self-inside c = let lt = place_in_range c.self.invariant.0.sound.place in omega (arith, lt, ap length c.states-states.ensures.same)
@@ -24,13 +24,13 @@ row_at table states state s e is lt = slice_get_read table.states (length table.
 
 pub returns-in-None-clause-over : goal.returns-in-None-clause-over
 returns-in-None-clause-over c =
-    let at = row_at c.self.inside.table.now c.states-states.result.now c.self.inside.state c.index-states-self.result c.states-states.ensures.same c.index-states-self.is (place_in_range c.self.invariant.0.sound.place) in
-    subst (λ z. RunnerEnds Cut z c.args.code.now c.spell.new.code) c.self.view_is (ends_cut (record { table = c.self.inside.table.now; words = c.self.inside.guide.script.words; state = c.self.inside.state; pending = code_over c.self.inside.guide.script.words c.self.inside.pending.items; registers = contents c.self.inside.guide.script c.self.inside.registers; read = c.self.inside.read; dead = c.self.inside.dead; ended = c.self.inside.ended; usable = c.self.inside.usable }) c.args.code.now c.spell.new.code c.if-self.false (c.in_ok-spell.ensures ∙ ap₂ (λ y z. c.args.code.now ++ code_over y z) c.words.ensures c.deref.ensures.value) (ending_none c.self.inside.table.now c.self.inside.state c.index-states-self.result at c.in-None.ensures))
+    let at = row_at c.self.inside.table.now c.states-states.result.now c.self.inside.place.state c.index-states-self.result c.states-states.ensures.same c.index-states-self.is (place_in_range c.self.invariant.0.sound.place) in
+    subst (λ z. RunnerEnds Cut z c.args.code.now c.spell.new.code) c.self.view_is (ends_cut (record { table = c.self.inside.table.now; words = c.self.inside.guide.script.words; state = c.self.inside.place.state; pending = code_over c.self.inside.guide.script.words c.self.inside.pending.items; registers = contents c.self.inside.guide.script c.self.inside.place.registers; read = c.self.inside.read; dead = c.self.inside.dead; ended = c.self.inside.ended; usable = c.self.inside.usable }) c.args.code.now c.spell.new.code c.if-self.false (c.in_ok-spell.ensures ∙ ap₂ (λ y z. c.args.code.now ++ code_over y z) c.words.ensures c.deref.ensures.value) (ending_none c.self.inside.table.now c.self.inside.place.state c.index-states-self.result at c.in-None.ensures))
 
 pub returns-in_ok-spell-in-Some-clause-over : goal.returns-in_ok-spell-in-Some-clause-over
 returns-in_ok-spell-in-Some-clause-over c =
-    let at = row_at c.self.inside.table.now c.states-states.result.now c.self.inside.state c.index-states-self.result c.states-states.ensures.same c.index-states-self.is (place_in_range c.self.invariant.0.sound.place) in
+    let at = row_at c.self.inside.table.now c.states-states.result.now c.self.inside.place.state c.index-states-self.result c.states-states.ensures.same c.index-states-self.is (place_in_range c.self.invariant.0.sound.place) in
     subst (λ z. RunnerEnds Parsed z c.args.code.now c.spell-in-Some.new.code) c.self.view_is
-    (ends_parsed (record { table = c.self.inside.table.now; words = c.self.inside.guide.script.words; state = c.self.inside.state; pending = code_over c.self.inside.guide.script.words c.self.inside.pending.items; registers = contents c.self.inside.guide.script c.self.inside.registers; read = c.self.inside.read; dead = c.self.inside.dead; ended = c.self.inside.ended; usable = c.self.inside.usable }) c.in-Some.way.now c.args.code.now c.spell-in-Some.new.code c.if-self.false
-    (c.in_ok-spell-in-Some.ensures.code ∙ ap (λ z. c.spell.new.code ++ parts_code (contents c.self.inside.guide.script c.self.inside.registers) 0 z) c.as_slice.ensures ∙ ap (λ z. z ++ parts_code (contents c.self.inside.guide.script c.self.inside.registers) 0 c.in-Some.way.now) (c.in_ok-spell.ensures ∙ ap₂ (λ y z. c.args.code.now ++ code_over y z) c.words.ensures c.deref.ensures.value))
-    (ending_some c.self.inside.table.now c.self.inside.state c.index-states-self.result c.in-Some.way.now at c.in-Some.ensures))
+    (ends_parsed (record { table = c.self.inside.table.now; words = c.self.inside.guide.script.words; state = c.self.inside.place.state; pending = code_over c.self.inside.guide.script.words c.self.inside.pending.items; registers = contents c.self.inside.guide.script c.self.inside.place.registers; read = c.self.inside.read; dead = c.self.inside.dead; ended = c.self.inside.ended; usable = c.self.inside.usable }) c.in-Some.way.now c.args.code.now c.spell-in-Some.new.code c.if-self.false
+    (c.in_ok-spell-in-Some.ensures.code ∙ ap (λ z. c.spell.new.code ++ parts_code (contents c.self.inside.guide.script c.self.inside.place.registers) 0 z) c.as_slice.ensures ∙ ap (λ z. z ++ parts_code (contents c.self.inside.guide.script c.self.inside.place.registers) 0 c.in-Some.way.now) (c.in_ok-spell.ensures ∙ ap₂ (λ y z. c.args.code.now ++ code_over y z) c.words.ensures c.deref.ensures.value))
+    (ending_some c.self.inside.table.now c.self.inside.place.state c.index-states-self.result c.in-Some.way.now at c.in-Some.ensures))

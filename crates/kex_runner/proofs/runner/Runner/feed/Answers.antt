@@ -12,7 +12,7 @@ use Rattle.kex_runner.proofs.runner.Runner.feed.Goals as goal
 pub returns-then-self-clause-fed : goal.returns-then-self-clause-fed
 returns-then-self-clause-fed g c =
     let script = c.self.inside.guide.script in
-    let r : Running = record { table = c.self.inside.table.now; words = script.words; state = c.self.inside.state; pending = code_over script.words c.self.inside.pending.items; registers = contents script c.self.inside.registers; read = c.self.inside.read; dead = c.self.inside.dead; ended = c.self.inside.ended; usable = c.self.inside.usable } in
+    let r : Running = record { table = c.self.inside.table.now; words = script.words; state = c.self.inside.place.state; pending = code_over script.words c.self.inside.pending.items; registers = contents script c.self.inside.place.registers; read = c.self.inside.read; dead = c.self.inside.dead; ended = c.self.inside.ended; usable = c.self.inside.usable } in
     let n : Running = record r { pending = []; usable = true } in
     let told : c.spell.new.code ≡ c.args.code.now ++ r.pending = c.in_ok-spell.ensures ∙ ap₂ (λ y z. c.args.code.now ++ code_over y z) c.words.ensures c.deref.ensures.value in
     none_pending Dead c.args.self.now n c.args.piece.now c.args.code.now c.spell.new.code (code_over script.words c.clear.new.self.items) (ap (λ z. code_over script.words z) c.clear.ensures.items)
@@ -21,11 +21,11 @@ returns-then-self-clause-fed g c =
 pub returns-clause-fed : goal.returns-clause-fed
 returns-clause-fed g c =
     let script = c.self.inside.guide.script in
-    let r : Running = record { table = c.self.inside.table.now; words = script.words; state = c.self.inside.state; pending = code_over script.words c.self.inside.pending.items; registers = contents script c.self.inside.registers; read = c.self.inside.read; dead = c.self.inside.dead; ended = c.self.inside.ended; usable = c.self.inside.usable } in
+    let r : Running = record { table = c.self.inside.table.now; words = script.words; state = c.self.inside.place.state; pending = code_over script.words c.self.inside.pending.items; registers = contents script c.self.inside.place.registers; read = c.self.inside.read; dead = c.self.inside.dead; ended = c.self.inside.ended; usable = c.self.inside.usable } in
     let count = c.in_ok-count.count in
     let piece = c.args.piece.now in
     let dead = nat_lt count (length piece) in
-    let n : Running = record r { state = c.follow.new.state; pending = []; registers = contents script c.follow.new.registers; read = c.self.inside.read + count; dead = dead; usable = true } in
+    let n : Running = record r { state = c.follow.new.self.state; pending = []; registers = contents script c.follow.new.self.registers; read = c.self.inside.read + count; dead = dead; usable = true } in
     let told : c.spell-2.new.code ≡ c.args.code.now ++ code_over script.words c.follow.new.pieces.items = c.in_ok-spell-2.ensures ∙ ap₂ (λ y z. c.args.code.now ++ code_over y z) c.words-2.ensures c.deref-2.ensures.value in
     let f : Follows r.table r.state r.registers piece count n.state n.registers (c.args.code.now ++ r.pending) c.spell-2.new.code =
     subst (λ z. Follows r.table r.state r.registers piece count n.state n.registers (c.args.code.now ++ r.pending) z) (sym told) (follows_behind r.table r.state r.registers piece count n.state n.registers c.args.code.now r.pending (code_over script.words c.follow.new.pieces.items) c.in_ok-count.ensures.follows) in

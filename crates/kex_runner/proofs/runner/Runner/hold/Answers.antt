@@ -11,7 +11,7 @@ use Rattle.kex_runner.proofs.runner.Runner.hold.Goals as goal
 pub returns-then-self-clause-fed : goal.returns-then-self-clause-fed
 returns-then-self-clause-fed c =
     let script = c.self.inside.guide.script in
-    let r : Running = record { table = c.self.inside.table.now; words = script.words; state = c.self.inside.state; pending = code_over script.words c.self.inside.pending.items; registers = contents script c.self.inside.registers; read = c.self.inside.read; dead = c.self.inside.dead; ended = c.self.inside.ended; usable = c.self.inside.usable } in
+    let r : Running = record { table = c.self.inside.table.now; words = script.words; state = c.self.inside.place.state; pending = code_over script.words c.self.inside.pending.items; registers = contents script c.self.inside.place.registers; read = c.self.inside.read; dead = c.self.inside.dead; ended = c.self.inside.ended; usable = c.self.inside.usable } in
     let n : Running = record r { pending = []; usable = true } in
     let piece = take (length c.args.piece.now) c.args.piece.now in
     let pieces = c.hand_over.new.pieces.items in
@@ -22,13 +22,13 @@ returns-then-self-clause-fed c =
 pub returns-clause-fed : goal.returns-clause-fed
 returns-clause-fed c =
     let script = c.self.inside.guide.script in
-    let r : Running = record { table = c.self.inside.table.now; words = script.words; state = c.self.inside.state; pending = code_over script.words c.self.inside.pending.items; registers = contents script c.self.inside.registers; read = c.self.inside.read; dead = c.self.inside.dead; ended = c.self.inside.ended; usable = c.self.inside.usable } in
+    let r : Running = record { table = c.self.inside.table.now; words = script.words; state = c.self.inside.place.state; pending = code_over script.words c.self.inside.pending.items; registers = contents script c.self.inside.place.registers; read = c.self.inside.read; dead = c.self.inside.dead; ended = c.self.inside.ended; usable = c.self.inside.usable } in
     let good = c.in_ok-taken.field-0.good in
     let taken = c.in_ok-taken.field-0.taken in
     let piece = take taken c.args.piece.now in
     let long : length piece ≡ taken = length-take-le taken c.args.piece.now c.in_ok-taken.ensures.taken in
     let dead = nat_lt good taken in
-    let n : Running = record r { state = c.follow_held.new.state; pending = []; registers = contents script c.follow_held.new.registers; read = c.self.inside.read + good; dead = dead; usable = true } in
+    let n : Running = record r { state = c.follow_held.new.self.state; pending = []; registers = contents script c.follow_held.new.self.registers; read = c.self.inside.read + good; dead = dead; usable = true } in
     let before = c.hand_over.new.pieces.items in
     let pieces = c.follow_held.new.pieces.items in
     let told : code_over script.words before ≡ r.pending = ap (λ z. code_over script.words z) c.hand_over.ensures.pieces in
