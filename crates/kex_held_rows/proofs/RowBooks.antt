@@ -12,10 +12,10 @@ use Rattle.kex_machine.specs.Nodes.{Graph}
 use Rattle.kex_sst.specs.Tables.{Transducer}
 use Rattle.kex_held.specs.declared.item.HeldItem.{HeldItem}
 use Rattle.kex_held.specs.Tracks.{HeldList}
-use Rattle.kex_held.specs.HeldRows.{HeldRow}
-use Rattle.kex_held.specs.LearntEdges.{IsRowWithin}
+use Rattle.kex_held.specs.HeldRows.{HeldRow, RowEdge}
+use Rattle.kex_held.specs.LearntEdges.{IsRowWithin, IsLearnt}
 use Rattle.kex_held_rows.specs.declared.note.RowNote.{RowNote}
-use Rattle.kex_held_rows.specs.declared.note.RowNote.TheVariants.{Unknown, Plain, Goes}
+use Rattle.kex_held_rows.specs.declared.note.RowNote.TheVariants.{Unknown, Plain, Stays, Goes}
 use Rattle.kex_held_rows.specs.Books.{RowNotes, RowBook, rows_in, IsNoteRight, IsEntryRight, IsBook, KeepsRows}
 
 -- what is there stays where more comes behind it
@@ -39,6 +39,7 @@ row_read (y ∷ xs) (suc i) x e = row_read xs i x e
 note_wider : (t : Transducer) (nodes : List MNode) (rows more : List HeldRow) (r : HeldRow) (class : ℕ) (n : RowNote) → IsNoteRight t nodes rows r class n → IsNoteRight t nodes (rows ++ more) r class n
 note_wider t nodes rows more r class Unknown p = tt
 note_wider t nodes rows more r class Plain p = tt
+note_wider t nodes rows more r class Stays p = p
 note_wider t nodes rows more r class (Goes e) p = (p.0, some_front rows more e.to p.0 p.1, p.2)
 
 entry_wider : (t : Transducer) (g : Graph) (rows more : List HeldRow) (x : RowNotes) → IsEntryRight t g rows x → IsEntryRight t g (rows ++ more) x
@@ -156,3 +157,12 @@ book_learnt old mid number class note new h keeps lt lt' right put =
   where
     one_value : {a b : HeldRow} → Some a ≡ Some b → a ≡ b
     one_value f = cc
+
+pub none_left : {A : Type 0} (xs : List A) → length xs ≡ 0 → xs ≡ []
+none_left [] e = refl
+none_left (x ∷ xs) e = absurd (omega arith)
+
+-- an edge that leads back with nothing for the output
+pub learnt_back : (t : Transducer) (nodes : List MNode) (r : HeldRow) (class : ℕ) (e : RowEdge) → IsLearnt t nodes r class e → e.to ≡ r → e.outs ≡ [] → IsLearnt t nodes r class (record { to = r; outs = []; keep = e.keep })
+learnt_back t nodes r class e l to outs =
+    subst (λ o. IsLearnt t nodes r class (record { to = r; outs = o; keep = e.keep })) outs (subst (λ q. IsLearnt t nodes r class (record { to = q; outs = e.outs; keep = e.keep })) to l)

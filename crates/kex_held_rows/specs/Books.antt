@@ -1,5 +1,5 @@
 -- Rows by number, and when what is known of them is right.
-use Rattle.std.specs.Prelude.{◌≡◌, ◌<◌, ℕ, List, ◌++◌, Some, All, map, length, slice_get}
+use Rattle.std.specs.Prelude.{◌≡◌, ◌<◌, ℕ, List, [], ◌++◌, Some, All, map, length, slice_get}
 use Rattle.std.specs.Prelude.{get_or}
 use Rattle.kex_byteset.specs.Classes.{class_count}
 use Rattle.kex_machine.specs.declared.MNode.{MNode}
@@ -8,7 +8,7 @@ use Rattle.kex_sst.specs.Tables.{Transducer}
 use Rattle.kex_held.specs.HeldRows.{HeldRow}
 use Rattle.kex_held.specs.LearntEdges.{IsLearnt, IsRowWithin}
 use Rattle.kex_held_rows.specs.declared.note.RowNote.{RowNote}
-use Rattle.kex_held_rows.specs.declared.note.RowNote.TheVariants.{Unknown, Plain, Goes}
+use Rattle.kex_held_rows.specs.declared.note.RowNote.TheVariants.{Unknown, Plain, Stays, Goes}
 
 -- a row, and what is known of it at each class
 pub record RowNotes : Type 0 where
@@ -24,10 +24,20 @@ pub record RowBook : Type 0 where
 abbrev pub rows_in : List RowNotes → List HeldRow
 rows_in xs = map (λ x. x.row) xs
 
+-- these are the first points, in their order
+abbrev pub AreFirst : List ℕ → Type 0
+AreFirst keep = (i : ℕ) → i < length keep → get_or keep i 0 ≡ i
+
+-- an edge is learnt that leads back to the row with nothing for the output, and all marks stay
+abbrev pub StaysAtRow : Transducer → List MNode → HeldRow → ℕ → Type 0
+StaysAtRow t nodes r class = (keep : List ℕ) × AreFirst keep
+    × IsLearnt t nodes r class (record { to = r; outs = []; keep = keep })
+
 -- where the row goes by an edge, that leads to a row of the list and is learnt
 abbrev pub IsNoteRight : Transducer → List MNode → List HeldRow → HeldRow → ℕ → RowNote → Type 0
 IsNoteRight t nodes rows r class Unknown = Unit {0}
 IsNoteRight t nodes rows r class Plain = Unit {0}
+IsNoteRight t nodes rows r class Stays = StaysAtRow t nodes r class
 IsNoteRight t nodes rows r class (Goes e) = (to : HeldRow) × (slice_get rows e.to ≡ Some to)
     × IsLearnt t nodes r class (record { to = to; outs = e.outs; keep = e.keep })
 

@@ -1,12 +1,12 @@
 // Rows by number.
 
 ghost use Rattle.std.specs.Prelude.{◌≡◌, ◌<◌, ◌++◌, ◌∷◌, [], Some, IfOk, IfSome, OnOk, OnErr};
-ghost use Rattle.std.specs.Prelude.{length, slice_get, slice_set, replicate};
+ghost use Rattle.std.specs.Prelude.{IsTrue, length, slice_get, slice_set, replicate};
 ghost use Rattle.kex_byteset.specs.Classes.{class_count};
 ghost use Rattle.kex_held.specs.HeldRows.{HeldRow};
 ghost use Rattle.kex_held.specs.LearntEdges.{IsRowWithin};
 ghost use Rattle.kex_held_rows.specs.declared.note.RowNote.TheVariants.{Unknown};
-ghost use Rattle.kex_held_rows.specs.Books.{RowNotes, rows_in, IsNoteRight, KeepsRows};
+ghost use Rattle.kex_held_rows.specs.Books.{RowNotes, rows_in, AreFirst, IsNoteRight, KeepsRows};
 
 use crate::note::{KnownEdge, KnownRow, RowNote};
 use crate::same::is_same_row;
@@ -103,6 +103,18 @@ fn head_of(heads: &mut [u32], state: u32, number: u32) -> u32 {
         Some(head) => mem::replace(head, number),
         None => NO_ROW,
     }
+}
+
+// Whether the points that stay are the first ones, in their order.
+fn are_first(keep: &[u8]) -> bool
+    ensures { IsTrue result → AreFirst keep.now }
+{
+    for (i, point) in keep.iter().enumerate() {
+        if *point as usize != i {
+            return false;
+        }
+    }
+    true
 }
 
 // Puts a row of which nothing is learnt behind others.
@@ -236,6 +248,9 @@ impl<'p> RowLedger<'p> {
         let Some(to) = self.row_of(row)? else {
             return Ok(RowNote::Plain);
         };
+        if to as usize == number && outs.is_empty() && are_first(&keep) {
+            return Ok(RowNote::Stays);
+        }
         Ok(RowNote::Goes(KnownEdge::new(to, outs, keep)))
     }
 

@@ -62,6 +62,8 @@ pub enum RowNote {
     Unknown,
     /// No edge: the byte is taken in another way.
     Plain,
+    /// The row stays: nothing goes to the output, and the marks stay.
+    Stays,
     /// It goes along an edge.
     Goes(KnownEdge),
 }

@@ -1,13 +1,34 @@
-use Rattle.std.proofs.Common.{◌≡◌, ◌∙◌, Some, sym, ap, subst}
+use Rattle.std.proofs.Common.{◌≡◌, ◌∙◌, [], Some, arith, sym, ap, subst}
 use Rattle.std.specs.Prelude.{IfSome, slice_get}
 use Rattle.kex_held.specs.HeldRows.{HeldRow}
 use Rattle.kex_held.specs.LearntEdges.{IsLearnt}
 use Rattle.kex_held_rows.specs.NumberedEdges.{NumberedEdge}
-use Rattle.kex_held_rows.specs.Books.{RowBook, rows_in}
+use Rattle.kex_held_rows.specs.Books.{RowBook, rows_in, AreFirst}
+use Rattle.kex_held_rows.proofs.RowBooks.{kept_at, none_left, learnt_back}
 use Rattle.kex_held_rows.proofs.book.RowLedger.note_for.Goals as goal
 
 one_value : {a b : HeldRow} → Some a ≡ Some b → a ≡ b
 one_value f = cc
+
+pub returns-then-are_first-clause-right : goal.returns-then-are_first-clause-right
+returns-then-are_first-clause-right c = λ r e.
+    let old = c.args.self.now in
+    let t = old.table in
+    let nodes = old.machine.nodes in
+    let class = c.args.class in
+    let row = c.row_at.result.now in
+    let edge = c.in-Some.edge in
+    let rows = rows_in c.row_of.new.self.rows in
+    let here : IsLearnt c.self.inside.table.now c.self.inside.machine.now.nodes row class edge = subst (λ o. IfSome o (IsLearnt c.self.inside.table.now c.self.inside.machine.now.nodes row class)) c.in-Some.is (c.in_ok-learnt.ensures {u = tt}).learnt in
+    let learnt : IsLearnt t nodes row class edge = subst (λ (b : RowBook). IsLearnt b.table b.machine.nodes row class edge) c.self.view_is here in
+    let same : row ≡ r = one_value (sym c.row_at.ensures.row ∙ e) in
+    let at : slice_get rows c.in-Some-2.to ≡ Some c.into_parts-row.result.0 = subst (λ o. IfSome o (λ i. slice_get rows i ≡ Some c.into_parts-row.result.0)) c.in-Some-2.is (c.in_ok-to.ensures {u = tt}).at in
+    let there : slice_get rows c.args.number ≡ Some r = kept_at old c.row_of.new.self c.args.number r (c.in_ok-to.ensures {u = tt}).keeps e in
+    let back : edge.to ≡ r = one_value (sym (at ∙ ap Some c.into_parts-row.ensures.row) ∙ ap (slice_get rows) c.if-to-number.true ∙ there) in
+    let none : edge.outs ≡ [] = sym c.into_parts-row.ensures.outs ∙ none_left c.into_parts-row.result.1.items (grind (arith, c.if-is_empty.ensures, c.into_parts-row.result.1.ok.0)) in
+    let first : AreFirst edge.keep = subst AreFirst (c.deref.ensures.value ∙ c.into_parts-row.ensures.keep) (c.are_first.ensures c.if-are_first.true) in
+    let moved : IsLearnt t nodes r class edge = subst (λ q. IsLearnt t nodes q class edge) same learnt in
+    (edge.keep, first, learnt_back t nodes r class edge moved back none)
 
 pub returns-clause-right : goal.returns-clause-right
 returns-clause-right c = λ r e.
