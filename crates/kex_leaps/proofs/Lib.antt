@@ -1,0 +1,2 @@
+mod RowScans
+mod LeapEffects

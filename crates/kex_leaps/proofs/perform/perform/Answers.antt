@@ -1,0 +1,37 @@
+use Rattle.std.proofs.Common.{◌∙◌, ◌<◌, get_or, sym, subst, ap, length, arith}
+use Rattle.kex_machine.specs.Nodes.{Graph}
+use Rattle.kex_action.specs.Sheets.{state_with}
+use Rattle.kex_held.specs.Acts.{after_act}
+use Rattle.kex_leaps.specs.declared.act.LeapAct.TheVariants.{Text}
+use Rattle.kex_leaps.specs.Leaps.{act_in}
+use Rattle.kex_leaps.proofs.LeapEffects.{performed_more}
+use Rattle.kex_leaps.proofs.perform.perform.Goals as goal
+
+pub perform_one-requires-clause-node : goal.perform_one-requires-clause-node
+perform_one-requires-clause-node c = subst (λ m. c.args.node < length m.nodes) (sym c.acts.invariant.machine) c.requires.node
+
+pub perform_one-requires-clause-room : goal.perform_one-requires-clause-room
+perform_one-requires-clause-room c = omega (arith, c.requires.room, c.acts.invariant.room)
+
+pub perform_one-requires-clause-within : goal.perform_one-requires-clause-within
+perform_one-requires-clause-within c = c.requires.within c.acts.one-index (Text 0 0) c.acts-test.true
+
+pub acts-preserved : goal.acts-preserved
+acts-preserved c =
+    let h = c.in_ok-perform_one.ensures {u = tt} in
+    let nodes = c.args.actor.now.machine.nodes in
+    let piece = c.args.piece.now in
+    let acts = c.args.acts.now in
+    let i = c.acts.one-index in
+    let s = state_with c.args.sheet.now c.args.out.now.items c.args.actor.now.holding in
+    let z = state_with c.acts.sheet c.acts.out.items c.acts.actor.holding in
+    let z' = state_with c.perform_one.new.sheet c.perform_one.new.out.items c.perform_one.new.actor.holding in
+    let one = h.did ∙ ap (λ (g : Graph). after_act g.nodes (act_in piece (get_or acts i (Text 0 0))) z) c.acts.invariant.machine in
+    record {
+      did = performed_more nodes piece acts i (Text 0 0) s z z' c.acts-test.true c.acts.invariant.did one;
+      sheet = h.sheet.0;
+      room = h.sheet.1 ∙ c.acts.invariant.room;
+      machine = h.same.0 ∙ c.acts.invariant.machine;
+      refused = h.same.1 ∙ c.acts.invariant.refused;
+      usable = h.usable;
+    }

@@ -1,0 +1,76 @@
+-- Leaps: a table goes from a state without registers to another, along rows of held text.
+use Rattle.std.specs.Prelude.{◌≡◌, ◌≤◌, ℕ, List, [], ◌++◌, Some, All, map, take, get_or, slice_get}
+use Rattle.kex_code.specs.declared.symbol.Symbol.{Symbol}
+use Rattle.kex_machine.specs.declared.MNode.{MNode}
+use Rattle.kex_sst.specs.Tables.{Transducer}
+use Rattle.kex_sst.specs.Passes.{passes_if}
+use Rattle.kex_held.specs.declared.item.HeldItem.{HeldItem}
+use Rattle.kex_held.specs.declared.item.HeldItem.TheVariants as items
+use Rattle.kex_held.specs.Acts.{Act, bytes, effect}
+use Rattle.kex_held.specs.TreeEdges.{DoesActs, AreHeld}
+use Rattle.kex_held.specs.Tracks.{HeldState}
+use Rattle.kex_held.specs.HeldRuns.{pass_with}
+use Rattle.kex_held.specs.Slices.{slice_between}
+use Rattle.kex_held.specs.Windows.{points_at}
+use Rattle.kex_held.specs.HeldRows.{HeldRow, state_over, FitsWindow}
+use Rattle.kex_leaps.specs.declared.act.LeapAct.{LeapAct}
+use Rattle.kex_leaps.specs.declared.act.LeapAct.TheVariants.{Text, Effect}
+
+-- bytes of a piece, or what a node does
+abbrev pub act_in : List ℕ → LeapAct → Act
+act_in piece (Text a b) = bytes (slice_between piece a b)
+act_in piece (Effect n) = effect n
+
+abbrev pub acts_in : List ℕ → List LeapAct → List Act
+acts_in piece xs = map (λ x. act_in piece x) xs
+
+-- a text lies within so many bytes
+abbrev pub IsActWithin : ℕ → LeapAct → Type 0
+IsActWithin high (Text a b) = (a ≤ b) × (b ≤ high)
+IsActWithin high (Effect n) = Unit {0}
+
+abbrev pub AreActsWithin : ℕ → List LeapAct → Type 0
+AreActsWithin high xs = All (IsActWithin high) xs
+
+-- an item of an edge at the byte behind so many
+abbrev pub leap_act : ℕ → List ℕ → HeldItem → LeapAct
+leap_act at marks (items.Slice i j) =
+    Text (get_or (points_at at marks) i 0) (get_or (points_at at marks) j 0)
+leap_act at marks (items.Effect n) = Effect n
+
+abbrev pub leap_acts : ℕ → List ℕ → List HeldItem → List LeapAct
+leap_acts at marks xs = map (λ x. leap_act at marks x) xs
+
+-- at a state without registers
+abbrev pub without_registers : ℕ → ℕ → HeldState
+without_registers q n = record { state = q; node = n; edges = [] }
+
+-- along the bytes the table goes from q to r, both without registers, and the code that it passes
+-- on does the acts from n to m
+pub record IsLeap (t : Transducer) (nodes : List MNode) (q n : ℕ) (bs : List ℕ) (acts : List Act)
+    (r m : ℕ) : Type 0 where
+  pub said : List Symbol
+  pub passed : (c : List Symbol)
+      → passes_if t (Some (pass_with (without_registers q n) c [])) bs
+      ≡ Some (pass_with (without_registers r m) (c ++ said) [])
+  pub does : DoesActs nodes n said m acts
+
+-- the row of a state and a node where nothing is held
+abbrev pub bare_row : ℕ → ℕ → HeldRow
+bare_row q n = record { state = q; node = n; marks = 0; lists = [] }
+
+-- along the first bytes of a piece the table has gone from q, without registers, to a row; what is
+-- passed on does the acts from n to the row's node
+pub record HasScanned (t : Transducer) (nodes : List MNode) (rows : List HeldRow) (q n : ℕ)
+    (piece : List ℕ) (at row : ℕ) (marks : List ℕ) (acts : List LeapAct) : Type 0 where
+  pub to : HeldRow
+  pub is : slice_get rows row ≡ Some to
+  pub fits : FitsWindow (take at piece) marks to
+  pub said : List Symbol
+  pub registers : List (List Symbol)
+  pub passed : (c : List Symbol)
+      → passes_if t (Some (pass_with (without_registers q n) c [])) (take at piece)
+      ≡ Some (pass_with (state_over (take at piece) marks to) (c ++ said) registers)
+  pub held : AreHeld nodes (state_over (take at piece) marks to).edges registers
+  pub does : DoesActs nodes n said to.node (acts_in piece acts)
+  pub within : AreActsWithin at acts

@@ -1,0 +1,10 @@
+//! Leaps over text that a table holds back, from a state without registers to the next: they are
+//! gone along by rows of held text, and then performed at once.
+#![tactic(auto)]
+
+pub mod act;
+mod credit;
+pub mod leaps;
+mod mark;
+mod perform;
+mod scan;

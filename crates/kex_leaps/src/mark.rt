@@ -1,0 +1,123 @@
+// Marks in a piece, and what is to be done along it.
+
+ghost use Rattle.std.specs.Prelude.{◌≡◌, ◌<◌, ◌+◌, ◌^◌, ◌++◌, [], OnOk, length, get_or};
+ghost use Rattle.kex_held.specs.Slices.{IsItemWithin, AreItemsWithin, AreKept, marks_by};
+ghost use Rattle.kex_held.specs.Windows.{points_at};
+ghost use Rattle.kex_leaps.specs.Leaps.{leap_act, leap_acts};
+
+use crate::act::LeapAct;
+use kex_code::memory::Memory;
+use kex_held::item::HeldItem;
+use kex_held_rows::note::KnownEdge;
+use std::alloc::Global;
+use std::mem;
+
+/// The places of the marks in a piece, and what is to be done for what was read of it.
+#[derive(Drop)]
+pub struct Trace {
+    pub marks: Vec<usize>,
+    pub acts: Vec<LeapAct>,
+    pub spare: Vec<usize>,
+}
+
+// Where a point of an edge lies at the byte behind so many.
+#[inline(always)]
+fn point_of(marks: &[usize], at: usize, number: u8) -> usize
+    requires fits { at + 1 < 2 ^ 64 }
+    requires within { number < length marks.now + 2 }
+    ensures { result ≡ get_or (points_at at marks.now) number 0 }
+{
+    let number = number as usize;
+    let count = marks.len();
+    if number < count {
+        return marks[number];
+    }
+    at + (number - count)
+}
+
+// What an item is at the byte behind so many.
+#[inline(always)]
+fn place(marks: &[usize], at: usize, item: HeldItem) -> LeapAct
+    requires fits { at + 1 < 2 ^ 64 }
+    requires within { IsItemWithin (length marks.now + 2) item }
+    ensures { result ≡ leap_act at marks.now item }
+{
+    match item {
+        HeldItem::Slice(from, to) => {
+            LeapAct::Text(point_of(marks, at, from), point_of(marks, at, to))
+        }
+        HeldItem::Effect(node) => LeapAct::Effect(node),
+    }
+}
+
+// Puts items behind acts.
+#[inline(always)]
+fn put_acts(
+    marks: &[usize],
+    at: usize,
+    items: &[HeldItem],
+    acts: &mut Vec<LeapAct>,
+) -> Result<(), Memory>
+    requires fits { at + 1 < 2 ^ 64 }
+    requires within { AreItemsWithin (length marks.now + 2) items.now }
+    ensures { OnOk result (acts.new.items ≡ acts.old.items ++ leap_acts at marks.now items.now) }
+{
+    'items: for item in items {
+        let act = place(marks, at, *item);
+        acts.push(act)?;
+    }
+    Ok(())
+}
+
+// Puts points of an edge behind one another.
+#[inline(always)]
+fn put_points(marks: &[usize], at: usize, keep: &[u8], out: &mut Vec<usize>) -> Result<(), Memory>
+    requires fits { at + 1 < 2 ^ 64 }
+    requires kept { AreKept (length marks.now + 2) keep.now }
+    requires none { out.old.items ≡ [] }
+    ensures { OnOk result (out.new.items ≡ marks_by (points_at at marks.now) keep.now) }
+{
+    'points: for number in keep {
+        let point = point_of(marks, at, *number);
+        out.push(point)?;
+    }
+    Ok(())
+}
+
+impl Trace {
+    /// No marks, and nothing to do.
+    pub fn new(alloc: Global) -> Trace {
+        Trace {
+            marks: Vec::new(alloc),
+            acts: Vec::new(alloc),
+            spare: Vec::new(alloc),
+        }
+    }
+
+    /// There are no marks any more, and nothing to do.
+    pub fn clear(&mut self)
+        ensures marks { self.new.marks.items ≡ [] }
+        ensures acts { self.new.acts.items ≡ [] }
+    {
+        self.marks.clear();
+        self.acts.clear();
+    }
+
+    /// Notes what goes to the output at the byte behind so many, and keeps some points as marks.
+    #[inline(always)]
+    pub fn take(&mut self, edge: &KnownEdge, at: usize) -> Result<(), Memory>
+        requires fits { at + 1 < 2 ^ 64 }
+        requires outs { AreItemsWithin (length self.old.marks.items + 2) edge.now.outs }
+        requires kept { AreKept (length self.old.marks.items + 2) edge.now.keep }
+        ensures acts { OnOk result (self.new.acts.items
+            ≡ self.old.acts.items ++ leap_acts at self.old.marks.items edge.now.outs) }
+        ensures marks { OnOk result (self.new.marks.items
+            ≡ marks_by (points_at at self.old.marks.items) edge.now.keep) }
+    {
+        put_acts(&self.marks, at, edge.outs(), &mut self.acts)?;
+        self.spare.clear();
+        put_points(&self.marks, at, edge.keep(), &mut self.spare)?;
+        mem::swap(&mut self.marks, &mut self.spare);
+        Ok(())
+    }
+}

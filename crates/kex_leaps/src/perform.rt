@@ -1,0 +1,169 @@
+// What is done along a leap is done by the actor.
+
+ghost use Rattle.std.specs.Prelude.{◌≡◌, ◌<◌, ◌≤◌, ◌+◌, OnOk, IsTrue, length};
+ghost use Rattle.kex_machine.specs.Nodes.{node_moves};
+ghost use Rattle.kex_action.specs.Actions.{after_move};
+ghost use Rattle.kex_action.specs.Holdings.{with_bytes};
+ghost use Rattle.kex_action.specs.Sheets.{IsSheet, IsAsLong, Writes, state_with};
+ghost use Rattle.kex_held.specs.Acts.{after_act, after_acts};
+ghost use Rattle.kex_leaps.specs.Leaps.{act_in, acts_in, IsActWithin, AreActsWithin};
+
+use crate::act::LeapAct;
+use kex_action::action::Action;
+use kex_action::actor::Actor;
+use kex_action::sheet::Sheet;
+use kex_code::memory::Memory;
+
+// Writes bytes on a sheet.
+#[inline(always)]
+fn put_on(sheet: &mut Sheet, text: &[u8])
+    requires sheet { IsSheet sheet.old }
+    requires room { sheet.old.used + length text.now ≤ length sheet.old.bytes.items }
+    ensures written { Writes sheet.old sheet.new text.now }
+    ensures sheet { IsSheet sheet.new }
+    ensures long { IsAsLong sheet.old sheet.new }
+{
+    let end = sheet.used + text.len();
+    sheet.bytes[sheet.used..end].copy_from_slice(text);
+    sheet.used = end;
+}
+
+// Hands on what stands on a sheet, where there is no room for so many bytes.
+#[inline(always)]
+fn make_place(
+    node: u32,
+    count: usize,
+    actor: &mut Actor,
+    sheet: &mut Sheet,
+    out: &mut Vec<u8>,
+) -> Result<(), Memory>
+    requires usable { IsTrue actor.old.usable }
+    requires node { node < length actor.old.machine.nodes }
+    requires sheet { IsSheet sheet.old }
+    requires room { count ≤ length sheet.old.bytes.items }
+    ensures did { OnOk result (state_with sheet.new out.new.items actor.new.holding
+        ≡ state_with sheet.old out.old.items actor.old.holding) }
+    ensures room { OnOk result (sheet.new.used + count ≤ length sheet.new.bytes.items) }
+    ensures sheet { OnOk result (IsSheet sheet.new × IsAsLong sheet.old sheet.new) }
+    ensures same { (actor.new.machine ≡ actor.old.machine)
+        × (actor.new.refused ≡ actor.old.refused) }
+    ensures usable { OnOk result (IsTrue actor.new.usable) }
+{
+    if count <= sheet.bytes.len() - sheet.used {
+        return Ok(());
+    }
+    actor.hand_on(node, sheet, out)?;
+    Ok(())
+}
+
+// Writes bytes on a sheet. Where there is no room for them what stands on it is handed on first.
+#[inline(always)]
+fn write(
+    node: u32,
+    text: &[u8],
+    actor: &mut Actor,
+    sheet: &mut Sheet,
+    out: &mut Vec<u8>,
+) -> Result<(), Memory>
+    requires usable { IsTrue actor.old.usable }
+    requires node { node < length actor.old.machine.nodes }
+    requires sheet { IsSheet sheet.old }
+    requires room { length text.now ≤ length sheet.old.bytes.items }
+    ensures did { OnOk result (state_with sheet.new out.new.items actor.new.holding
+        ≡ with_bytes text.now (state_with sheet.old out.old.items actor.old.holding)) }
+    ensures sheet { OnOk result (IsSheet sheet.new × IsAsLong sheet.old sheet.new) }
+    ensures same { (actor.new.machine ≡ actor.old.machine)
+        × (actor.new.refused ≡ actor.old.refused) }
+    ensures usable { OnOk result (IsTrue actor.new.usable) }
+{
+    make_place(node, text.len(), actor, sheet, out)?;
+    put_on(sheet, text);
+    Ok(())
+}
+
+// Does what a node does: on a sheet, or where it can't be done there, behind what stands on it.
+fn act(
+    node: u32,
+    by: u32,
+    actor: &mut Actor,
+    sheet: &mut Sheet,
+    out: &mut Vec<u8>,
+) -> Result<(), Memory>
+    requires usable { IsTrue actor.old.usable }
+    requires node { node < length actor.old.machine.nodes }
+    requires sheet { IsSheet sheet.old }
+    ensures did { OnOk result (state_with sheet.new out.new.items actor.new.holding
+        ≡ after_move (node_moves actor.old.machine.nodes by)
+        (state_with sheet.old out.old.items actor.old.holding)) }
+    ensures sheet { OnOk result (IsSheet sheet.new × IsAsLong sheet.old sheet.new) }
+    ensures same { (actor.new.machine ≡ actor.old.machine)
+        × (actor.new.refused ≡ actor.old.refused) }
+    ensures usable { OnOk result (IsTrue actor.new.usable) }
+{
+    let actions = [Action::Node(by)];
+    let count = actor.act_on(&actions, 0, sheet)?;
+    if count > 0 {
+        return Ok(());
+    }
+    actor.hand_on(node, sheet, out)?;
+    actor.act(node, &actions, 0, out)?;
+    Ok(())
+}
+
+// Does one of the acts.
+#[inline(always)]
+fn perform_one(
+    node: u32,
+    piece: &[u8],
+    one: LeapAct,
+    actor: &mut Actor,
+    sheet: &mut Sheet,
+    out: &mut Vec<u8>,
+) -> Result<(), Memory>
+    requires usable { IsTrue actor.old.usable }
+    requires node { node < length actor.old.machine.nodes }
+    requires sheet { IsSheet sheet.old }
+    requires room { length piece.now ≤ length sheet.old.bytes.items }
+    requires within { IsActWithin (length piece.now) one }
+    ensures did { OnOk result (state_with sheet.new out.new.items actor.new.holding
+        ≡ after_act actor.old.machine.nodes (act_in piece.now one)
+        (state_with sheet.old out.old.items actor.old.holding)) }
+    ensures sheet { OnOk result (IsSheet sheet.new × IsAsLong sheet.old sheet.new) }
+    ensures same { (actor.new.machine ≡ actor.old.machine)
+        × (actor.new.refused ≡ actor.old.refused) }
+    ensures usable { OnOk result (IsTrue actor.new.usable) }
+{
+    match one {
+        LeapAct::Text(from, to) => write(node, &piece[from..to], actor, sheet, out),
+        LeapAct::Effect(by) => act(node, by, actor, sheet, out),
+    }
+}
+
+/// Does acts of a piece, one after another, on a sheet, and goes by a node where that has to be
+/// handed on meanwhile.
+pub fn perform(
+    node: u32,
+    piece: &[u8],
+    acts: &[LeapAct],
+    actor: &mut Actor,
+    sheet: &mut Sheet,
+    out: &mut Vec<u8>,
+) -> Result<(), Memory>
+    requires usable { IsTrue actor.old.usable }
+    requires node { node < length actor.old.machine.nodes }
+    requires sheet { IsSheet sheet.old }
+    requires room { length piece.now ≤ length sheet.old.bytes.items }
+    requires within { AreActsWithin (length piece.now) acts.now }
+    ensures did { OnOk result (state_with sheet.new out.new.items actor.new.holding
+        ≡ after_acts actor.old.machine.nodes (acts_in piece.now acts.now)
+        (state_with sheet.old out.old.items actor.old.holding)) }
+    ensures sheet { OnOk result (IsSheet sheet.new × IsAsLong sheet.old sheet.new) }
+    ensures same { (actor.new.machine ≡ actor.old.machine)
+        × (actor.new.refused ≡ actor.old.refused) }
+    ensures usable { OnOk result (IsTrue actor.new.usable) }
+{
+    'acts: for one in acts {
+        perform_one(node, piece, *one, actor, sheet, out)?;
+    }
+    Ok(())
+}

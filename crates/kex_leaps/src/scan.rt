@@ -1,0 +1,213 @@
+// How rows of held text are gone along.
+
+ghost use Rattle.std.specs.Prelude.{◌≡◌, ◌<◌, ◌≤◌, ℕ, [], Some, IfOk, IfSome, IsTrue, length};
+ghost use Rattle.std.specs.Prelude.{slice_get, take};
+ghost use Rattle.kex_held.specs.HeldRows.{HeldRow};
+ghost use Rattle.kex_held_rows.specs.Books.{rows_in, KeepsRows};
+ghost use Rattle.kex_leaps.specs.declared.scan.ScanEnd.{ScanEnd};
+ghost use Rattle.kex_leaps.specs.Leaps.{acts_in, AreActsWithin, bare_row, IsLeap};
+ghost use Rattle.kex_leaps.specs.Leaps.{HasScanned};
+
+use crate::credit::Credit;
+use crate::mark::Trace;
+use kex_code::memory::Memory;
+use kex_held::row::TextRow;
+use kex_held_rows::book::RowLedger;
+use kex_held_rows::note::RowNote;
+use kex_sst::table::Table;
+use std::alloc::Global;
+
+/// So many bytes, and the state and the node to which they lead.
+#[derive(Clone, Copy, Debug, PartialEq, Eq)]
+pub struct Leap {
+    pub count: usize,
+    pub state: u32,
+    pub node: u32,
+}
+
+/// Where a scan has come to: in the piece, and at which row.
+#[derive(Clone, Copy, Debug, PartialEq, Eq)]
+pub struct ScanPoint {
+    pub at: usize,
+    pub row: u32,
+}
+
+/// Why a scan ends: nothing is held any more, an edge isn't learnt, or it can't go on.
+#[derive(Clone, Copy, Debug, PartialEq, Eq)]
+pub enum ScanEnd {
+    Bare,
+    Unknown,
+    Nowhere,
+}
+
+/// Where a scan has come to, and why it ended.
+#[derive(Clone, Copy, Debug, PartialEq, Eq)]
+pub struct ScanStop {
+    pub at: usize,
+    pub row: u32,
+    pub end: ScanEnd,
+}
+
+// Whether a row holds nothing.
+#[inline(always)]
+fn is_bare(ledger: &RowLedger, row: u32) -> bool
+    requires { row < length ledger.now.rows }
+    ensures { IsTrue result → (r : HeldRow) → slice_get (rows_in ledger.now.rows) row ≡ Some r
+        → r.lists ≡ [] }
+{
+    ledger.row_at(row as usize).texts().is_empty()
+}
+
+/// Goes along a piece by what is noted of rows, up to a row that holds nothing, or a byte at which
+/// no edge is known.
+pub fn scan_on(
+    ledger: &RowLedger,
+    table: &Table,
+    piece: &[u8],
+    from: ScanPoint,
+    trace: &mut Trace,
+) -> Result<ScanStop, Memory>
+    requires table { table.now ≡ ledger.now.table }
+    requires scanned { (q : ℕ) × (n : ℕ) × HasScanned ledger.now.table ledger.now.machine.nodes
+        (rows_in ledger.now.rows) q n piece.now from.at from.row trace.old.marks.items
+        trace.old.acts.items }
+    requires at { from.at ≤ length piece.now }
+    ensures scanned { IfOk result (λ stop. (q n : ℕ) → HasScanned ledger.now.table
+        ledger.now.machine.nodes (rows_in ledger.now.rows) q n piece.now from.at from.row
+        trace.old.marks.items trace.old.acts.items → HasScanned ledger.now.table
+        ledger.now.machine.nodes (rows_in ledger.now.rows) q n piece.now stop.at stop.row
+        trace.new.marks.items trace.new.acts.items) }
+    ensures at { IfOk result (λ stop. stop.at ≤ length piece.now) }
+    ensures unknown { IfOk result (λ stop. stop.end ≡ ScanEnd.Unknown
+        → stop.at < length piece.now) }
+    ensures bare { IfOk result (λ stop. stop.end ≡ ScanEnd.Bare → (r : HeldRow)
+        → slice_get (rows_in ledger.now.rows) stop.row ≡ Some r → r.lists ≡ []) }
+{
+    let partition = table.partition();
+    let mut row = from.row;
+    let mut at = from.at;
+    'bytes: while at < piece.len() {
+        let class = partition.class_of(piece[at]);
+        match ledger.note_at(row as usize, class) {
+            RowNote::Stays => at += 1,
+            RowNote::Goes(edge) => {
+                trace.take(edge, at)?;
+                row = edge.to();
+                at += 1;
+                if is_bare(ledger, row) {
+                    let end = ScanEnd::Bare;
+                    return Ok(ScanStop { at, row, end });
+                }
+            }
+            RowNote::Plain => {
+                let end = ScanEnd::Nowhere;
+                return Ok(ScanStop { at, row, end });
+            }
+            RowNote::Unknown => {
+                let end = ScanEnd::Unknown;
+                return Ok(ScanStop { at, row, end });
+            }
+        }
+    }
+    let end = ScanEnd::Nowhere;
+    Ok(ScanStop { at, row, end })
+}
+
+// Learns the edge of a row at a byte of a piece.
+fn learn_at(ledger: &mut RowLedger, table: &Table, row: u32, byte: u8) -> Result<(), Memory>
+    requires table { table.now ≡ ledger.old.table }
+    requires row { row < length ledger.old.rows }
+    ensures { KeepsRows ledger.old ledger.new }
+{
+    let class = table.partition().class_of(byte);
+    ledger.learn(row as usize, class)
+}
+
+/// Goes along a piece from a row that holds nothing, up to the next such row, and learns what isn't
+/// noted yet. `None` where the piece ends before that, and where what is met can't be learnt.
+pub fn scan_from(
+    ledger: &mut RowLedger,
+    table: &Table,
+    first: u32,
+    piece: &[u8],
+    trace: &mut Trace,
+    credit: &mut Credit,
+) -> Result<Option<ScanPoint>, Memory>
+    requires table { table.now ≡ ledger.old.table }
+    requires first { (q : ℕ) × (n : ℕ)
+        × (slice_get (rows_in ledger.old.rows) first ≡ Some (bare_row q n)) }
+    requires marks { trace.old.marks.items ≡ [] }
+    requires acts { trace.old.acts.items ≡ [] }
+    ensures keeps { KeepsRows ledger.old ledger.new }
+    ensures at { IfOk result (λ o. IfSome o (λ p. p.at ≤ length piece.now)) }
+    ensures scanned { IfOk result (λ o. IfSome o (λ p. (q n : ℕ)
+        → slice_get (rows_in ledger.old.rows) first ≡ Some (bare_row q n)
+        → HasScanned ledger.old.table ledger.old.machine.nodes (rows_in ledger.new.rows) q n
+        piece.now p.at p.row trace.new.marks.items trace.new.acts.items)) }
+    ensures bare { IfOk result (λ o. IfSome o (λ p. (r : HeldRow)
+        → slice_get (rows_in ledger.new.rows) p.row ≡ Some r → r.lists ≡ [])) }
+{
+    let mut point = ScanPoint { at: 0, row: first };
+    let mut left = piece.len();
+    'rounds: while left > 0 {
+        let stop = scan_on(ledger, table, piece, point, trace)?;
+        point = ScanPoint {
+            at: stop.at,
+            row: stop.row,
+        };
+        match stop.end {
+            ScanEnd::Bare => return Ok(Some(point)),
+            ScanEnd::Nowhere => return Ok(None),
+            ScanEnd::Unknown => {
+                if !credit.spend() {
+                    return Ok(None);
+                }
+                learn_at(ledger, table, stop.row, piece[stop.at])?;
+            }
+        }
+        left -= 1;
+    }
+    Ok(None)
+}
+
+/// Goes along a piece from a state without registers, where the actor is at a node, up to the next
+/// such state. `None` where the piece ends before that, and where it can't be learnt.
+pub fn scan(
+    alloc: Global,
+    table: &Table,
+    ledger: &mut RowLedger,
+    trace: &mut Trace,
+    credit: &mut Credit,
+    state: u32,
+    node: u32,
+    piece: &[u8],
+) -> Result<Option<Leap>, Memory>
+    requires table { table.now ≡ ledger.old.table }
+    requires state { state < length ledger.old.table.states }
+    requires node { node < length ledger.old.machine.nodes }
+    ensures table { ledger.new.table ≡ ledger.old.table }
+    ensures machine { ledger.new.machine ≡ ledger.old.machine }
+    ensures within { IfOk result (λ o. IfSome o (λ s. s.count ≤ length piece.now)) }
+    ensures leap { IfOk result (λ o. IfSome o (λ s.
+        IsLeap ledger.old.table ledger.old.machine.nodes state node (take s.count piece.now)
+        (acts_in piece.now trace.new.acts.items) s.state s.node)) }
+    ensures acts { IfOk result (λ o.
+        IfSome o (λ s. AreActsWithin (length piece.now) trace.new.acts.items)) }
+    ensures to { IfOk result (λ o. IfSome o (λ s. (s.state < length ledger.old.table.states)
+        × (s.node < length ledger.old.machine.nodes))) }
+{
+    trace.clear();
+    let first = TextRow::new(state, node, 0, Vec::new(alloc));
+    let Some(row) = ledger.row_of(first)? else {
+        return Ok(None);
+    };
+    let Some(point) = scan_from(ledger, table, row, piece, trace, credit)? else {
+        return Ok(None);
+    };
+    let to = ledger.row_at(point.row as usize);
+    Ok(Some(Leap {
+        count: point.at,
+        state: to.state(),
+        node: to.node(),
+    }))
+}
