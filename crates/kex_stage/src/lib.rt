@@ -5,6 +5,7 @@
 //! whose answer is the stage's over the nodes of its machine.
 #![tactic(auto)]
 
+pub mod common;
 pub mod follower;
 pub mod laws;
 pub mod oracle;

@@ -6,6 +6,7 @@ ghost use Rattle.kex_sst.specs.Machines.{IsBestTableOf};
 ghost use Rattle.kex_stage.specs.Plans.{IsTableAs, IsTableFor, IsTableIf};
 ghost use Rattle.kex_stage.specs.declared.plan.Telling.TheVariants as telling;
 
+use crate::common::Common;
 use kex_code::memory::Memory;
 use kex_constants::{LONGEST, clear_table};
 use kex_machine::Trimmed;
@@ -23,12 +24,12 @@ pub enum Telling {
 }
 
 /// A stage's machine, its table, if it has one, and what the stage tells. Beside that table there
-/// may be a shorter one of the machine, by which stages go.
+/// may be a shorter one of the machine, by which stages go. Plans may have all of it in common.
 #[derive(Drop)]
 pub struct Plan {
-    machine: Trimmed,
-    table: Option<Table>,
-    shorter: Option<Table>,
+    machine: Common<Trimmed>,
+    table: Option<Common<Table>>,
+    shorter: Option<Common<Table>>,
     telling: Telling,
 }
 
@@ -42,6 +43,16 @@ impl Model for Plan {
 
     ghost invariant = { λ p. IsTableFor p.telling p.machine p.table
         × IfSome p.shorter (λ t. IsTableAs p.telling p.machine t) };
+}
+
+// One more owner of a table, if there is one.
+fn again_if(table: &Option<Common<Table>>) -> Result<Option<Common<Table>>, Memory>
+    ensures { IfOk result (λ o. o ≡ table.now) }
+{
+    match table {
+        None => Ok(None),
+        Some(table) => Ok(Some(table.again()?)),
+    }
 }
 
 // Whether there is a register that may be constant. Either answer would be right: without one the
@@ -63,8 +74,8 @@ impl Plan {
             ≡ record { machine = machine; table = table; telling = telling.Agreed } }
     {
         Plan {
-            machine,
-            table,
+            machine: Common::alone(machine),
+            table: table.map(Common::alone),
             shorter: None,
             telling: Telling::Agreed,
         }
@@ -77,11 +88,37 @@ impl Plan {
             ≡ record { machine = machine; table = Some table; telling = telling.Best } }
     {
         Plan {
-            machine,
-            table: Some(table),
+            machine: Common::alone(machine),
+            table: Some(Common::alone(table)),
             shorter: None,
             telling: Telling::Best,
         }
+    }
+
+    /// The plan of a machine and a table that other plans may have too.
+    pub fn sharing(machine: Common<Trimmed>, table: Option<Common<Table>>, telling: Telling) -> Plan
+        requires { IsTableFor telling machine table }
+        ensures { result ≡ record { machine = machine; table = table; telling = telling } }
+    {
+        Plan {
+            machine,
+            table,
+            shorter: None,
+            telling,
+        }
+    }
+
+    /// The same plan once more: it has machine and tables in common with this one. Fails where they
+    /// were made for one plan, by `new` or `best`.
+    pub fn again(&self) -> Result<Plan, Memory>
+        ensures { IfOk result (λ p. p ≡ self.now) }
+    {
+        Ok(Plan {
+            machine: self.machine.again()?,
+            table: again_if(&self.table)?,
+            shorter: again_if(&self.shorter)?,
+            telling: self.telling,
+        })
     }
 
     /// The machine.
@@ -89,8 +126,9 @@ impl Plan {
         ensures same { result.now ≡ self.now.machine }
         ensures trimmed { IsTrimmed self.now.machine }
     {
-        let _nodes = self.machine.nodes();
-        &self.machine
+        let machine = self.machine.get();
+        let _nodes = machine.nodes();
+        machine
     }
 
     /// The table, if it has one.
@@ -99,7 +137,7 @@ impl Plan {
             ≡ Some t.now) }
         ensures of_machine { IsTableFor self.now.telling self.now.machine self.now.table }
     {
-        self.table.as_ref()
+        self.table.as_ref().map(Common::get)
     }
 
     /// What its stages tell.
@@ -121,7 +159,10 @@ impl Plan {
             ..
         } = self;
         let shorter = match &table {
-            Some(table) if has_registers(table) => Some(clear_table(alloc, table, LONGEST)?),
+            Some(table) if has_registers(table.get()) => {
+                let cleared = clear_table(alloc, table.get(), LONGEST)?;
+                Some(Common::new(alloc, cleared)?)
+            }
             _ => None,
         };
         Ok(Plan {
@@ -139,8 +180,8 @@ impl Plan {
             (λ t. IsTableAs self.now.telling self.now.machine t.now) }
     {
         match &self.shorter {
-            None => self.table.as_ref(),
-            Some(table) => Some(table),
+            None => self.table.as_ref().map(Common::get),
+            Some(table) => Some(table.get()),
         }
     }
 }
