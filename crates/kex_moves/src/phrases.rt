@@ -7,11 +7,10 @@ ghost use Rattle.kex_moves.specs.Speech.{PerformsSaid};
 use crate::along::ROOM;
 use crate::edges::{By, Edges};
 use crate::moves::shift_of;
-use crate::tell::tell;
+use crate::tell::{Lexicon, Notebook, tell};
 use kex_action::actor::Actor;
 use kex_action::sheet::Sheet;
 use kex_code::memory::Memory;
-use kex_code::symbol::Symbol;
 use kex_machine::Trimmed;
 use kex_script::piece::ByteWord;
 use kex_sst::parts::Parts;
@@ -31,9 +30,7 @@ pub struct Phrases<'p> {
     alloc: Global,
     words: Vec<Parts>,
     machine: &'p Trimmed,
-    pub(crate) edges: Edges,
-    sheet: Sheet,
-    symbols: Vec<Symbol>,
+    notebook: Notebook,
     usable: bool,
 }
 
@@ -49,8 +46,8 @@ impl<'p> Model for Phrases<'p> {
     ghost view = { λ p. record { words = p.words.items; machine = p.machine.now } };
 
     ghost invariant = { λ p. IsTrue p.usable
-        → IsKnown (words_table p.words.items) p.machine.now p.edges × IsBlank p.sheet
-        × (length p.sheet.bytes.items ≡ ROOM) };
+        → IsKnown (words_table p.words.items) p.machine.now p.notebook.edges
+        × IsBlank p.notebook.sheet × (length p.notebook.sheet.bytes.items ≡ ROOM) };
 }
 
 // The same words again.
@@ -76,9 +73,11 @@ impl<'p> Phrases<'p> {
             alloc,
             words: copy_of(alloc, words)?,
             machine,
-            edges,
-            sheet: Sheet::new(alloc, ROOM)?,
-            symbols: Vec::new(alloc),
+            notebook: Notebook {
+                edges,
+                sheet: Sheet::new(alloc, ROOM)?,
+                symbols: Vec::new(alloc),
+            },
             usable: true,
         })
     }
@@ -102,17 +101,12 @@ impl<'p> Phrases<'p> {
             return Err(Memory);
         }
         self.usable = false;
-        tell(
-            self.alloc,
-            &self.words,
-            self.machine,
-            &mut self.edges,
-            &mut self.sheet,
-            &mut self.symbols,
-            actor,
-            pieces,
-            out,
-        )?;
+        let lexicon = Lexicon {
+            alloc: self.alloc,
+            words: &self.words,
+            machine: self.machine,
+        };
+        tell(&lexicon, &mut self.notebook, actor, pieces, out)?;
         self.usable = true;
         Ok(())
     }

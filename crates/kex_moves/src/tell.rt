@@ -25,6 +25,22 @@ use kex_script::piece::ByteWord;
 use kex_sst::parts::Parts;
 use std::alloc::Global;
 
+/// The words of a list, and the machine at whose nodes they are performed.
+#[derive(Clone, Copy)]
+pub struct Lexicon<'w> {
+    pub alloc: Global,
+    pub words: &'w [Parts],
+    pub machine: &'w Trimmed,
+}
+
+/// What is learnt of words, and what they are performed with: a sheet, and a buffer for symbols.
+#[derive(Drop)]
+pub struct Notebook {
+    pub edges: Edges,
+    pub sheet: Sheet,
+    pub symbols: Vec<Symbol>,
+}
+
 // Goes along edges while they are written, on a sheet.
 #[inline(always)]
 fn along(edges: &Edges, sheet: &mut Sheet, row: usize, pieces: &[ByteWord]) -> RowPoint
@@ -176,16 +192,15 @@ fn tell_from(
 
 // Learns the edge of a row at the first of some pieces, if it isn't learnt.
 fn learn_next(
-    alloc: Global,
-    words: &[Parts],
-    machine: &Trimmed,
+    lexicon: &Lexicon,
     edges: &mut Edges,
     row: usize,
     pieces: &[ByteWord],
 ) -> Result<(), Memory>
-    requires known { IsKnown (words_table words.now) machine.now edges.old }
+    requires known { IsKnown (words_table lexicon.now.words.now) lexicon.now.machine.now edges.old }
     requires row { (p : Pair) × IsPairRow edges.old row p }
-    ensures { OnOk result (IsKnown (words_table words.now) machine.now edges.new) }
+    ensures { OnOk result
+        (IsKnown (words_table lexicon.now.words.now) lexicon.now.machine.now edges.new) }
 {
     let Some(piece) = pieces.first() else {
         return Ok(());
@@ -195,76 +210,82 @@ fn learn_next(
     }
     let word = piece.word as u8;
     match edges.edge_at(row, word).kind {
-        EdgeKind::Unknown => learn_word(alloc, words, machine, edges, row, word),
+        EdgeKind::Unknown => learn_word(
+            lexicon.alloc,
+            lexicon.words,
+            lexicon.machine,
+            edges,
+            row,
+            word,
+        ),
         _ => Ok(()),
     }
 }
 
 // Performs pieces as far as edges go, and learns the edge of the next one.
 fn tell_some(
-    alloc: Global,
-    words: &[Parts],
-    machine: &Trimmed,
-    edges: &mut Edges,
-    sheet: &mut Sheet,
+    lexicon: &Lexicon,
+    notebook: &mut Notebook,
     actor: &mut Actor,
     pieces: &[ByteWord],
     out: &mut Vec<u8>,
 ) -> Result<usize, Memory>
     requires usable { IsTrue actor.old.usable }
-    requires machine { actor.old.machine ≡ machine.now }
-    requires known { IsKnown (words_table words.now) machine.now edges.old }
-    requires room { length sheet.old.bytes.items ≡ ROOM }
-    requires none { IsBlank sheet.old }
-    ensures known { OnOk result (IsKnown (words_table words.now) machine.now edges.new) }
+    requires machine { actor.old.machine ≡ lexicon.now.machine.now }
+    requires known { IsKnown (words_table lexicon.now.words.now) lexicon.now.machine.now
+        notebook.old.edges }
+    requires room { length notebook.old.sheet.bytes.items ≡ ROOM }
+    requires none { IsBlank notebook.old.sheet }
+    ensures known { OnOk result (IsKnown (words_table lexicon.now.words.now)
+        lexicon.now.machine.now notebook.new.edges) }
     ensures within { IfOk result (λ count. count ≤ length pieces.now) }
     ensures performs { IfOk result (λ count. PerformsSaid actor.old actor.new
-        (code_over words.now (take count pieces.now)) out.old.items out.new.items) }
-    ensures none { OnOk result (IsBlank sheet.new) }
-    ensures room { OnOk result (IsAsLong sheet.old sheet.new) }
+        (code_over lexicon.now.words.now (take count pieces.now)) out.old.items out.new.items) }
+    ensures none { OnOk result (IsBlank notebook.new.sheet) }
+    ensures room { OnOk result (IsAsLong notebook.old.sheet notebook.new.sheet) }
     ensures machine { actor.new.machine ≡ actor.old.machine }
     ensures usable { OnOk result (IsTrue actor.new.usable) }
 {
-    let Some(row) = row_for(machine, edges, 1, 0, actor.node())? else {
+    let edges = &mut notebook.edges;
+    let Some(row) = row_for(lexicon.machine, edges, 1, 0, actor.node())? else {
         return Ok(0);
     };
-    let place = tell_from(edges, sheet, row, actor, pieces, out)?;
+    let place = tell_from(edges, &mut notebook.sheet, row, actor, pieces, out)?;
     let rest = &pieces[place.count..];
-    learn_next(alloc, words, machine, edges, place.row, rest)?;
+    learn_next(lexicon, edges, place.row, rest)?;
     Ok(place.count)
 }
 
 /// Performs pieces: by edges, and symbol by symbol where no edge is known.
 pub fn tell(
-    alloc: Global,
-    words: &[Parts],
-    machine: &Trimmed,
-    edges: &mut Edges,
-    sheet: &mut Sheet,
-    symbols: &mut Vec<Symbol>,
+    lexicon: &Lexicon,
+    notebook: &mut Notebook,
     actor: &mut Actor,
     pieces: &[ByteWord],
     out: &mut Vec<u8>,
 ) -> Result<(), Memory>
     requires usable { IsTrue actor.old.usable }
-    requires machine { actor.old.machine ≡ machine.now }
-    requires known { IsKnown (words_table words.now) machine.now edges.old }
-    requires room { length sheet.old.bytes.items ≡ ROOM }
-    requires none { IsBlank sheet.old }
-    ensures known { OnOk result (IsKnown (words_table words.now) machine.now edges.new) }
+    requires machine { actor.old.machine ≡ lexicon.now.machine.now }
+    requires known { IsKnown (words_table lexicon.now.words.now) lexicon.now.machine.now
+        notebook.old.edges }
+    requires room { length notebook.old.sheet.bytes.items ≡ ROOM }
+    requires none { IsBlank notebook.old.sheet }
+    ensures known { OnOk result (IsKnown (words_table lexicon.now.words.now)
+        lexicon.now.machine.now notebook.new.edges) }
     ensures performs { OnOk result (PerformsSaid actor.old actor.new
-        (code_over words.now pieces.now) out.old.items out.new.items) }
-    ensures none { OnOk result (IsBlank sheet.new) }
-    ensures room { OnOk result (IsAsLong sheet.old sheet.new) }
+        (code_over lexicon.now.words.now pieces.now) out.old.items out.new.items) }
+    ensures none { OnOk result (IsBlank notebook.new.sheet) }
+    ensures room { OnOk result (IsAsLong notebook.old.sheet notebook.new.sheet) }
     ensures machine { actor.new.machine ≡ actor.old.machine }
     ensures usable { OnOk result (IsTrue actor.new.usable) }
 {
     let mut at = 0;
     'pieces: while at < pieces.len() {
         let rest = &pieces[at..];
-        at += tell_some(alloc, words, machine, edges, sheet, actor, rest, out)?;
+        at += tell_some(lexicon, notebook, actor, rest, out)?;
         if at < pieces.len() {
-            take_word(words, pieces[at], symbols, actor, out)?;
+            let symbols = &mut notebook.symbols;
+            take_word(lexicon.words, pieces[at], symbols, actor, out)?;
             at += 1;
         }
     }

@@ -9,7 +9,7 @@ use Rattle.kex_moves.proofs.tell.tell.Goals as goal
 
 pub pieces-preserved : goal.pieces-preserved
 pieces-preserved c =
-    let words = c.args.words.now in
+    let words = c.args.lexicon.now.words.now in
     let pieces = c.args.pieces.now in
     let at = c.pieces.at in
     let n = length pieces - at in
@@ -31,7 +31,7 @@ pieces-preserved c =
 
 pub pieces-preserved-then-at-pieces : goal.pieces-preserved-then-at-pieces
 pieces-preserved-then-at-pieces c =
-    let words = c.args.words.now in
+    let words = c.args.lexicon.now.words.now in
     let pieces = c.args.pieces.now in
     let at = c.pieces.at in
     let n = length pieces - at in
@@ -67,4 +67,4 @@ pub returns-clause-performs : goal.returns-clause-performs
 returns-clause-performs c =
     let pieces = c.args.pieces.now in
     let all : take c.pieces.at pieces ≡ pieces = take_all c.pieces.at pieces (omega (arith, c.pieces-test.false)) in
-    subst (λ ps. PerformsSaid c.args.actor.now c.pieces.actor (code_over c.args.words.now ps) c.args.out.now.items c.pieces.out.items) all c.pieces.invariant.performs
+    subst (λ ps. PerformsSaid c.args.actor.now c.pieces.actor (code_over c.args.lexicon.now.words.now ps) c.args.out.now.items c.pieces.out.items) all c.pieces.invariant.performs

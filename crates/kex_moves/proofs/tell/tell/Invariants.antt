@@ -8,12 +8,12 @@ use Rattle.kex_moves.proofs.tell.tell.Given as goal
 abbrev pub invariant-pieces : goal.invariant-pieces
 invariant-pieces l = record {
   at : l.at ≤ length l.pieces;
-  machine : l.actor.machine ≡ l.machine;
+  machine : l.actor.machine ≡ l.lexicon.machine.now;
   usable : IsTrue l.actor.usable;
-  known : IsKnown (words_table l.words) l.machine l.edges;
-  blank : IsBlank l.sheet;
-  room : length l.sheet.bytes.items ≡ 86033;
-  performs : PerformsSaid l.fn.actor l.actor (code_over l.words (take l.at l.pieces)) l.fn.out.items l.out.items;
+  known : IsKnown (words_table l.lexicon.words.now) l.lexicon.machine.now l.notebook.edges;
+  blank : IsBlank l.notebook.sheet;
+  room : length l.notebook.sheet.bytes.items ≡ 86033;
+  performs : PerformsSaid l.fn.actor l.actor (code_over l.lexicon.words.now (take l.at l.pieces)) l.fn.out.items l.out.items;
 }
 
 abbrev pub decreases-pieces : goal.decreases-pieces
