@@ -1,10 +1,12 @@
 // A worker with desks.
 
-ghost use Rattle.std.specs.Prelude.{◌≡◌, ◌≤◌, true, ℕ, List, IfOk, All, vec_len};
+ghost use Rattle.std.specs.Prelude.{◌≡◌, ◌≤◌, ◌<◌, ◌+◌, ◌^◌, true, ℕ, List, IfOk, All, vec_len};
+ghost use Rattle.std.specs.Prelude.{None, IsTrue, length};
+ghost use Rattle.kex_pipe.specs.Working.{ReadMore};
 ghost use Rattle.std.proofs.Common.{◌∙◌};
 
 use crate::desk::PieceDesk;
-use crate::joining::read_piece;
+use crate::joining::{read_piece, sample_all};
 use crate::place::KnowsPlace;
 use crate::trust::Trust;
 use kex_code::memory::Memory;
@@ -13,6 +15,9 @@ use kex_pipe::worker::Worker;
 use std::alloc::Global;
 use std::marker::Model;
 use std::mem;
+
+// A piece of fewer bytes, on which no desk works, isn't worth the noting of a place in it.
+const SHORT: usize = 4_096;
 
 /// What a worker is made of, and how many desks it has.
 #[derive(Drop)]
@@ -62,12 +67,24 @@ fn desks_of<W: KnowsPlace + Drop>(
     Ok(desks)
 }
 
-// The desks are to work on what is read behind so many bytes.
-fn make_ready_all<W: KnowsPlace>(read: u64, desks: &mut [PieceDesk<W>])
+// The desks are to work on whole parts of what a worker reads next, or on some of them.
+fn make_ready_all<W: KnowsPlace>(worker: &W, whole: bool, desks: &mut [PieceDesk<W>])
+    requires { All (λ d. W.machine d ≡ W.machine worker.now) desks.old }
     ensures { desks.new ≡ desks.old }
 {
+    let read = worker.count();
+    // Before the first byte is as good as behind a line.
+    sample_all(worker, desks, read == 0);
     for k in 0..desks.len() {
-        desks[k].make_ready(read);
+        desks[k].make_ready(read, whole);
+    }
+}
+
+// Whether desks know where their worker stood behind a line.
+fn knows_place<W: KnowsPlace + Drop>(desks: &[PieceDesk<W>]) -> bool {
+    match desks.first() {
+        None => false,
+        Some(desk) => desk.knows(),
     }
 }
 
@@ -77,6 +94,26 @@ impl<W: KnowsPlace> ChunkWorker<W> {
         ensures { result ≡ self.now.taken }
     {
         self.taken
+    }
+}
+
+impl<W: KnowsPlace + Drop> ChunkWorker<W> {
+    // Reads a piece of which its desks may have made drafts.
+    fn read_in_parts(&mut self, piece: &[u8], out: &mut Vec<u8>) -> Result<Option<u64>, Memory>
+        requires ready { IsTrue (W.is_ready self.old.worker) }
+        requires room { W.counted self.old.worker + length piece.now < 2 ^ 64 }
+        ensures same { W.machine self.new.worker ≡ W.machine self.old.worker }
+        ensures reads { IfOk result (λ at. (w text : List ℕ) → W.follows self.old.worker w text
+            → ReadMore (W.says (W.machine self.old.worker)) (W.follows self.new.worker)
+            w text piece.now at out.old.items out.new.items) }
+        ensures ready { IfOk result (λ at. at ≡ None → IsTrue (W.is_ready self.new.worker)) }
+        ensures counted { W.counted self.new.worker
+            ≤ W.counted self.old.worker + length piece.now }
+    {
+        let read = read_piece(&mut self.worker, &mut self.desks, piece, out)?;
+        self.taken = self.taken.saturating_add(read.taken);
+        self.trust.learn(read.taken > 0);
+        Ok(read.stop)
     }
 }
 
@@ -119,10 +156,10 @@ impl<W: KnowsPlace + Drop> Worker for ChunkWorker<W> {
     }
 
     fn go_on(&mut self, piece: &[u8], out: &mut Vec<u8>) -> Result<Option<u64>, Memory> {
-        let read = read_piece(&mut self.worker, &mut self.desks, piece, out)?;
-        self.taken = self.taken.saturating_add(read.taken);
-        self.trust.learn(read.taken > 0);
-        Ok(read.stop)
+        if piece.len() < SHORT && !self.trust.has_tried() {
+            return self.worker.go_on(piece, out);
+        }
+        self.read_in_parts(piece, out)
     }
 
     fn finish(&mut self, out: &mut Vec<u8>) -> Result<bool, Memory> {
@@ -134,10 +171,11 @@ impl<W: KnowsPlace + Drop> PartedWorker<PieceDesk<W>> for ChunkWorker<W> {
     ghost owns = { λ s d. W.machine d ≡ W.machine s.worker };
 
     fn hand_out(&mut self) -> Vec<PieceDesk<W>> {
-        if !self.trust.tries() {
+        let known = self.worker.count() == 0 || knows_place(&self.desks);
+        if !self.trust.tries(known) {
             return Vec::new(self.alloc);
         }
-        make_ready_all(self.worker.count(), &mut self.desks);
+        make_ready_all(&self.worker, self.trust.is_proven(), &mut self.desks);
         mem::replace(&mut self.desks, Vec::new(self.alloc))
     }
 

@@ -22,6 +22,8 @@ pub struct PieceDesk<W: KnowsPlace> {
     sampled: bool,
     // How many bytes were read before the piece.
     read: u64,
+    // Whether it works on a whole part, or on some of it.
+    whole: bool,
     draft: PartDraft<W::Place>,
     // Whether it has made a draft that no worker has taken.
     drafted: bool,
@@ -40,13 +42,13 @@ impl<W: KnowsPlace> Model for PieceDesk<W> {
         d.draft.place d.worker d.draft.bytes.items d.draft.text.items) };
 }
 
-/// So many bytes were read up to a stop, if there was one, and so many parts of them were taken
-/// over.
+/// So many bytes were read up to a stop, if there was one, and a part of them was taken over or
+/// wasn't.
 #[derive(Clone, Copy)]
 pub struct Joined {
     pub count: usize,
     pub stop: Option<u64>,
-    pub taken: u64,
+    pub taken: bool,
 }
 
 impl<W: KnowsPlace + Drop> PieceDesk<W> {
@@ -63,6 +65,7 @@ impl<W: KnowsPlace + Drop> PieceDesk<W> {
             sample,
             sampled,
             read: 0,
+            whole: false,
             draft: PartDraft {
                 place,
                 from: 0,
@@ -106,11 +109,17 @@ impl<W: KnowsPlace> PieceDesk<W> {
         self.sampled = matches!(worker.note(&mut self.sample), Ok(true));
     }
 
-    /// It is to work on what is read behind so many bytes.
-    pub(crate) fn make_ready(&mut self, read: u64)
+    /// Whether it knows where a worker stood behind a line.
+    pub(crate) fn knows(&self) -> bool {
+        self.sampled
+    }
+
+    /// It is to work on a whole part of what is read behind so many bytes, or on some of one.
+    pub(crate) fn make_ready(&mut self, read: u64, whole: bool)
         ensures { self.new ≡ self.old }
     {
         self.read = read;
+        self.whole = whole;
         self.drafted = false;
     }
 
@@ -130,7 +139,6 @@ impl<W: KnowsPlace> PieceDesk<W> {
             (W.follows worker.old) (W.follows worker.new) (take j.count rest.now) j.stop
             out.old.items out.new.items) }
         ensures count { IfOk result (λ j. j.count ≤ length rest.now) }
-        ensures taken { IfOk result (λ j. j.taken ≤ 1) }
         ensures ready { IfOk result (λ j. j.stop ≡ None → IsTrue (W.is_ready worker.new)) }
         ensures counted { IfOk result (λ j. W.counted worker.new
             ≤ W.counted worker.old + j.count) }
@@ -142,14 +150,14 @@ impl<W: KnowsPlace> PieceDesk<W> {
             return Ok(Joined {
                 count: 0,
                 stop: None,
-                taken: 0,
+                taken: false,
             });
         };
         if !mem::replace(&mut self.drafted, false) {
             return Ok(Joined {
                 count: 0,
                 stop: None,
-                taken: 0,
+                taken: false,
             });
         }
         let stop = worker.go_on(&rest[..ahead], out)?;
@@ -158,7 +166,7 @@ impl<W: KnowsPlace> PieceDesk<W> {
             return Ok(Joined {
                 count: ahead,
                 stop,
-                taken: 0,
+                taken: false,
             });
         }
         out.extend_from_slice(&self.draft.text)?;
@@ -166,7 +174,7 @@ impl<W: KnowsPlace> PieceDesk<W> {
         Ok(Joined {
             count: to,
             stop: None,
-            taken: 1,
+            taken: true,
         })
     }
 }
@@ -181,7 +189,7 @@ impl<W: KnowsPlace> PartDesk for PieceDesk<W> {
         if !self.sampled || self.read > u64::MAX - piece.len() as u64 {
             return;
         }
-        let Some(part) = part_bounds(piece, part, of) else {
+        let Some(part) = part_bounds(piece, part, of, self.whole) else {
             return;
         };
         let made = make_draft(

@@ -4,10 +4,19 @@ ghost use Rattle.std.specs.Prelude.{◌≡◌, ◌≤◌, ◌<◌, ◌+◌, ◌-
 ghost use Rattle.std.specs.Prelude.{length, take, drop};
 ghost use Rattle.kex_desks.specs.Drafts.{ComesTo, ReadsPiece};
 
-use crate::desk::{Joined, PieceDesk};
+use crate::desk::PieceDesk;
 use crate::parts::whole_lines;
 use crate::place::KnowsPlace;
 use kex_code::memory::Memory;
+
+// So many bytes of a piece were read up to a stop, if there was one, and so many parts of them were
+// taken over.
+#[derive(Clone, Copy)]
+struct AllJoined {
+    count: usize,
+    stop: Option<u64>,
+    taken: u64,
+}
 
 /// A worker goes along a piece as far as drafts of it go that desks have made, and takes over those
 /// that it would make itself.
@@ -16,7 +25,7 @@ fn join_all<W: KnowsPlace>(
     desks: &mut [PieceDesk<W>],
     piece: &[u8],
     out: &mut Vec<u8>,
-) -> Result<Joined, Memory>
+) -> Result<AllJoined, Memory>
     requires ready { IsTrue (W.is_ready worker.old) }
     requires same { All (λ d. W.machine d ≡ W.machine worker.old) desks.old }
     requires few { length desks.old ≤ 64 }
@@ -25,7 +34,6 @@ fn join_all<W: KnowsPlace>(
         (W.follows worker.old) (W.follows worker.new) (take j.count piece.now) j.stop
         out.old.items out.new.items) }
     ensures count { IfOk result (λ j. j.count ≤ length piece.now) }
-    ensures taken { IfOk result (λ j. j.taken ≤ 64) }
     ensures ready { IfOk result (λ j. j.stop ≡ None → IsTrue (W.is_ready worker.new)) }
     ensures counted { IfOk result (λ j. W.counted worker.new ≤ W.counted worker.old + j.count) }
     ensures within { W.counted worker.new ≤ W.counted worker.old + length piece.now }
@@ -34,28 +42,28 @@ fn join_all<W: KnowsPlace>(
     ensures number { length desks.new ≡ length desks.old }
 {
     let mut at = 0;
-    let mut taken = 0;
+    let mut taken: u64 = 0;
     for k in 0..desks.len() {
         let joined = desks[k].join(worker, at, &piece[at..], out)?;
         at += joined.count;
-        taken += joined.taken;
+        taken = taken.saturating_add(u64::from(joined.taken));
         if joined.stop.is_some() {
-            return Ok(Joined {
+            return Ok(AllJoined {
                 count: at,
                 stop: joined.stop,
                 taken,
             });
         }
     }
-    Ok(Joined {
+    Ok(AllJoined {
         count: at,
         stop: None,
         taken,
     })
 }
 
-// The desks note where a worker stands behind a line, if it has read one.
-fn sample_all<W: KnowsPlace>(worker: &W, desks: &mut [PieceDesk<W>], lines: bool)
+/// The desks note where a worker stands behind a line, if it has read one.
+pub fn sample_all<W: KnowsPlace>(worker: &W, desks: &mut [PieceDesk<W>], lines: bool)
     requires { All (λ d. W.machine d ≡ W.machine worker.now) desks.old }
     ensures { desks.new ≡ desks.old }
 {
@@ -119,7 +127,6 @@ pub fn read_piece<W: KnowsPlace>(
     ensures reads { IfOk result (λ r. ReadsPiece (W.says (W.machine worker.old))
         (W.follows worker.old) (W.follows worker.new) piece.now r.stop
         out.old.items out.new.items) }
-    ensures taken { IfOk result (λ r. r.taken ≤ 64) }
     ensures ready { IfOk result (λ r. r.stop ≡ None → IsTrue (W.is_ready worker.new)) }
     ensures within { W.counted worker.new ≤ W.counted worker.old + length piece.now }
     ensures machine { W.machine worker.new ≡ W.machine worker.old }

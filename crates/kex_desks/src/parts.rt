@@ -7,6 +7,9 @@ use memchr::{memchr, memrchr};
 // The byte at which lines end.
 const LINE_END: u8 = b'\n';
 
+// So many bytes of a part may be worked on for nothing.
+const TRIAL: usize = 4_096;
+
 /// A part of a piece, and where the line before it begins.
 #[derive(Clone, Copy)]
 pub struct PartBounds {
@@ -57,9 +60,17 @@ pub fn whole_lines(piece: &[u8]) -> usize
     }
 }
 
-/// Part k of so many, counted from 1, and the line before it. There is none where lines are too
-/// long: then more would be read before a part than in it.
-pub fn part_bounds(piece: &[u8], k: u32, of: u32) -> Option<PartBounds>
+// How much of so many bytes is worked on where it isn't known to be for something.
+fn trial_of(bytes: usize) -> usize
+    ensures { result ≤ bytes }
+{
+    (bytes / 8).max(TRIAL).min(bytes)
+}
+
+/// Part k of so many, counted from 1, and the line before it: the whole part, or a few lines of a
+/// long one. There is none where lines are too long: then more would be read before a part than in
+/// it.
+pub fn part_bounds(piece: &[u8], k: u32, of: u32, whole: bool) -> Option<PartBounds>
     requires { (1 ≤ k) × (k ≤ of) }
     ensures { IfSome result (λ p. (p.before ≤ p.from) × (p.from < p.to)
         × (p.to ≤ length piece.now)) }
@@ -71,11 +82,14 @@ pub fn part_bounds(piece: &[u8], k: u32, of: u32) -> Option<PartBounds>
         behind_last(piece, cut)?
     };
     let from = behind_next(piece, cut.max(before))?;
-    let to = if k == of {
-        behind_last(piece, piece.len())?
+    let end = if k == of {
+        piece.len()
     } else {
         behind_next(piece, cut_of(piece.len(), k, of))?
     };
+    let long = end.saturating_sub(from);
+    let worked = if whole { long } else { trial_of(long) };
+    let to = behind_last(piece, end - (long - worked))?;
     if from < to && from - before <= to - from {
         Some(PartBounds { before, from, to })
     } else {

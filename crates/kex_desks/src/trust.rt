@@ -1,6 +1,6 @@
 // Whether desks are worth their threads.
 
-ghost use Rattle.std.specs.Prelude.{◌≡◌, ◌==◌, false};
+ghost use Rattle.std.specs.Prelude.{◌≡◌, ◌==◌, ◌&&◌, ◌||◌, not, false};
 
 // So many pieces in a row may be worked on in parts of which none is taken over.
 const PATIENCE: u32 = 8;
@@ -14,41 +14,69 @@ const LONGEST_REST: u32 = 63;
 pub struct Trust {
     missed: u32,
     resting: u32,
+    // Desks have worked on a piece of the run; on the next one; and the last time for something.
+    begun: bool,
     tried: bool,
+    proven: bool,
 }
 
 impl Trust {
     pub fn new() -> Trust
-        ensures { result ≡ record { missed = 0; resting = 0; tried = false } }
+        ensures { result ≡ record {
+          missed = 0;
+          resting = 0;
+          begun = false;
+          tried = false;
+          proven = false;
+        } }
     {
         Trust {
             missed: 0,
             resting: 0,
+            begun: false,
             tried: false,
+            proven: false,
         }
     }
 
-    /// Whether desks are to work on the next piece.
-    pub fn tries(&mut self) -> bool
-        ensures { result ≡ (self.old.resting == 0) }
+    /// Whether desks are to work on the next piece, where it is known or not where a worker stood
+    /// behind a line: on the first one always.
+    pub fn tries(&mut self, known: bool) -> bool
+        ensures { result ≡ (not self.old.begun || (known && self.old.resting == 0)) }
     {
-        self.tried = self.resting == 0;
-        if !self.tried {
-            self.resting -= 1;
-        }
+        self.tried = !self.begun || (known && self.resting == 0);
+        self.begun = true;
+        self.resting = self.resting.saturating_sub(1);
         self.tried
+    }
+
+    /// Desks were to work on the next piece.
+    pub fn has_tried(&self) -> bool
+        ensures { result ≡ self.now.tried }
+    {
+        self.tried
+    }
+
+    /// Whether desks have worked for something, the last time they did.
+    pub fn is_proven(&self) -> bool
+        ensures { result ≡ self.now.proven }
+    {
+        self.proven
     }
 
     /// A piece was read, of which a part was taken over or none. After some for which desks have
     /// worked for nothing they rest, each time twice as long.
     pub fn learn(&mut self, some_taken: bool) {
-        if some_taken {
-            self.missed = 0;
-        }
-        if some_taken || !self.tried {
+        let tried = self.tried;
+        self.tried = false;
+        if !tried {
             return;
         }
-        self.tried = false;
+        self.proven = some_taken;
+        if some_taken {
+            self.missed = 0;
+            return;
+        }
         self.missed = self.missed.saturating_add(1);
         if self.missed >= PATIENCE {
             let doublings = (self.missed - PATIENCE).min(6);

@@ -9,7 +9,6 @@ pub loop-k-init : goal.loop-k-init
 loop-k-init g c = record {
   at = omega arith;
   went = goes_nowhere (g.W.Worker.follows c.args.worker.now) c.args.out.now.items;
-  taken = omega arith;
   ready = c.requires.ready;
   counted = omega arith;
   machine = refl;
@@ -74,7 +73,6 @@ loop-k-preserved g c =
     record {
       at = omega (arith, c.in_ok-joined.ensures.count, long, i.at);
       went = subst (λ z. GoesOver F H z c.args.out.now.items c.join.new.out.items) whole (subst (λ s. ComesTo says F H (take at piece ++ take count rest) s c.args.out.now.items c.join.new.out.items) on both);
-      taken = omega (arith, c.in_ok-joined.ensures.taken, i.taken);
       ready = c.in_ok-joined.ensures.ready on;
       counted = omega (arith, c.in_ok-joined.ensures.counted, i.counted);
       machine = c.join.ensures.same.0 ∙ i.machine;

@@ -9,7 +9,6 @@ invariant-loop-k g l =
     record {
       at : l.at ≤ length l.piece;
       went : GoesOver (w.follows l.fn.worker) (w.follows l.worker) (take l.at l.piece) l.fn.out.items l.out.items;
-      taken : l.taken ≤ l.k;
       ready : IsTrue (w.is_ready l.worker);
       counted : w.counted l.worker ≤ w.counted l.fn.worker + l.at;
       machine : w.machine l.worker ≡ w.machine l.fn.worker;
