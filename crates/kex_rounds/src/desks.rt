@@ -63,50 +63,89 @@ fn work_parts<R: Threads + Sync, D: PartDesk + Send, G: Gate + Sync>(
     one && other
 }
 
-/// The desks work on parts of a piece at once: there are as many parts as desks, or bytes if those
-/// are fewer. Part k, counted from 1, enters the gate as k before its work. It leaves it after,
-/// also where it finds nothing to do.
+/// The desks work on parts of a piece at once: there are as many parts as desks, or fewer, of so
+/// many bytes at least. Part k, counted from 1, enters the gate as k before its work. It leaves it
+/// after, also where it finds nothing to do. A single part isn't worked on: its desk would do what
+/// the stage does then.
 pub fn work_desks<R: Threads + Sync, D: PartDesk + Send, G: Gate + Sync>(
     rt: &R,
     desks: &mut [D],
     piece: &[u8],
+    least: usize,
     gate: &G,
 )
-    requires { length desks.old ≤ 64 }
+    requires few { length desks.old ≤ 64 }
+    requires some { 0 < least }
     ensures { map D.kind desks.new ≡ map D.kind desks.old }
 {
-    let parts = desks.len().min(piece.len());
+    let parts = desks.len().min(piece.len() / least);
+    if parts < 2 {
+        return;
+    }
     let (busy, _idle) = desks.split_at_mut(parts);
     let _done = work_parts(rt, gate, 1, parts as u32, piece, busy);
 }
 
-/// The desks of a stage work at once on parts of a piece that it reads next.
+/// The desks of a stage work at once on parts of a piece that it reads next, of so many bytes at
+/// least.
 pub fn work_ahead<R: Threads + Sync, D: PartDesk + Drop + Send, T: Parted<D>, G: Gate + Sync>(
     rt: &R,
     stage: &mut T,
     piece: &[u8],
+    least: usize,
     gate: &G,
 )
+    requires { 0 < least }
     ensures plan { T.plan stage.new ≡ T.plan stage.old }
     ensures usable { T.is_usable stage.new ≡ T.is_usable stage.old }
     ensures stands { (h : Option StageFed) → T.stands stage.old h → T.stands stage.new h }
 {
     let mut desks: Vec<D> = stage.hand_out();
-    work_desks(rt, &mut desks, piece, gate);
+    work_desks(rt, &mut desks, piece, least, gate);
     stage.take_back(desks);
 }
 
+// The desks of stage `i` work at once on parts of what waits before it, of so many bytes at least.
+fn share<R: Threads + Sync, D: PartDesk + Drop + Send, T: Parted<D> + Drop, G: Gate + Sync>(
+    rt: &R,
+    pipe: &mut Pipe<T>,
+    gate: &G,
+    i: u32,
+    least: usize,
+)
+    requires from_one { 1 ≤ i }
+    requires to_last { i ≤ stage_count T.Turn pipe.old }
+    requires closed { is_in_round T.Turn pipe.old ≡ false }
+    requires some { 0 < least }
+    ensures stands { (ps : List T.Plan) (h : List Event) (taken : List ℕ)
+        → Stands T.Turn ps pipe.old h taken → Stands T.Turn ps pipe.new h taken }
+    ensures hand { in_hand T.Turn pipe.new ≡ in_hand T.Turn pipe.old }
+    ensures spent { is_spent T.Turn pipe.new ≡ is_spent T.Turn pipe.old }
+    ensures ended { is_ended T.Turn pipe.new ≡ is_ended T.Turn pipe.old }
+    ensures count { stage_count T.Turn pipe.new ≡ stage_count T.Turn pipe.old }
+    ensures closed { is_in_round T.Turn pipe.new ≡ is_in_round T.Turn pipe.old }
+{
+    if pipe.waiting(i).len() / least < 2 {
+        return;
+    }
+    let mut desks: Vec<D> = hand_out(pipe, i);
+    work_desks(rt, &mut desks, pipe.waiting(i), least, gate);
+    take_back(pipe, i, desks);
+}
+
 /// Stage `i`, counted from 1, takes a turn of all that waits before it. Its desks work on parts of
-/// that at once, and it goes by what they have made where that is what it makes itself.
+/// that at once, of so many bytes at least, and it goes by what they have made where that is what
+/// it makes itself. Where there are fewer than two parts it has no desks for this turn.
 pub fn turn_in_parts<
     R: Threads + Sync,
     D: PartDesk + Drop + Send,
     T: Parted<D> + Drop,
     G: Gate + Sync,
->(rt: &R, pipe: &mut Pipe<T>, gate: &G, i: u32) -> Result<(), PipeFault>
+>(rt: &R, pipe: &mut Pipe<T>, gate: &G, i: u32, least: usize) -> Result<(), PipeFault>
     requires from_one { 1 ≤ i }
     requires to_last { i ≤ stage_count T.Turn pipe.old }
     requires closed { is_in_round T.Turn pipe.old ≡ false }
+    requires some { 0 < least }
     ensures stands { OnOk result ((ps : List T.Plan) (h : List Event) (taken : List ℕ)
         → Stands T.Turn ps pipe.old h taken
         → Stands T.Turn ps pipe.new (h ++ turn_of T.Turn pipe.old.seats.items (i - 1) ∷ []) taken) }
@@ -122,8 +161,6 @@ pub fn turn_in_parts<
     ensures closed { is_in_round T.Turn pipe.new ≡ false }
 {
     let all = pipe.count_waiting(i);
-    let mut desks: Vec<D> = hand_out(pipe, i);
-    work_desks(rt, &mut desks, pipe.waiting(i), gate);
-    take_back(pipe, i, desks);
+    share(rt, pipe, gate, i, least);
     pipe.turn(i, all)
 }

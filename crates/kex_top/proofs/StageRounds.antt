@@ -55,6 +55,17 @@ module _ {T : Type 0} (t : Ghosts T) where
         stands_for = next g.events g.stands_for;
       }
 
+  -- a piece more was given, and worked off
+  pub piece-given : (front part more : List ℕ) (ps : List t.Plan) (h : List Event) (taken : List ℕ) (old pipe : Pipe T t) → front ++ part ≡ more → ((k : List Event) → Stands t ps old k taken → IsWorkedOff t.gives ps (λ m. Stands t ps pipe m taken) (k ++ give part ∷ [])) → IsGiven (λ k. Stands t ps old k taken) front h → IsGiven (λ k. Stands t ps pipe k taken) more h
+  piece-given front part more ps h taken old pipe joined next g =
+      let w = next g.events g.stands_for in
+      record {
+        events = w.events;
+        bytes = w.same_bytes ∙ bytes-more g.events part ∙ ap (λ z. z ++ part) g.bytes ∙ append_assoc (bytes_given h) front part ∙ ap (λ z. bytes_given h ++ z) joined;
+        same_end = w.same_end ∙ end-open g.events part ∙ g.same_end;
+        stands_for = w.stands_for;
+      }
+
   -- after some rounds so many stages have worked off all that came to them
   pub record Rounding (i : ℕ) (ps : List t.Plan) (h : List Event) (taken : List ℕ) (pipe : Pipe T t) : Type 0 where
     pub events : List Event

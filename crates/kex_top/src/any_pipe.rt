@@ -12,6 +12,7 @@ ghost use Rattle.kex_top.specs.Piped.{plans_of};
 
 use crate::pipeline::Limited;
 use crate::rounds::Pace;
+use crate::sharing::Sharing;
 use crate::{rings, rounds, turns};
 use kex_code::memory::Memory;
 use kex_pipe::pipe::{Pipe, PipeFault};
@@ -29,7 +30,7 @@ pub(crate) enum AnyPipe<T: Turn> {
     Rounds(Pipe<T>),
     /// The stages take turns in their order, and each stage's desks work on parts of what it is to
     /// read.
-    Turns(Pipe<T>),
+    Turns { pipe: Pipe<T>, sharing: Sharing },
     /// Rings join the stages. How much each took in the last round is kept beside.
     Rings { pipe: RingPipe<T>, counts: Vec<u64> },
 }
@@ -66,7 +67,10 @@ impl<T: Turn + Drop> AnyPipe<T> {
         ensures plans { IfOk result (λ pipe. plans_of T.Turn pipe ≡ map T.plan stages.items) }
         ensures fresh { IfOk result (λ pipe. PipeStands T.Turn pipe None) }
     {
-        Ok(AnyPipe::Turns(Pipe::new(alloc, stages)?))
+        Ok(AnyPipe::Turns {
+            pipe: Pipe::new(alloc, stages)?,
+            sharing: Sharing::new(),
+        })
     }
 
     /// The input ends here.
@@ -80,7 +84,7 @@ impl<T: Turn + Drop> AnyPipe<T> {
     {
         match self {
             AnyPipe::Rounds(pipe) => pipe.give_end(),
-            AnyPipe::Turns(pipe) => pipe.give_end(),
+            AnyPipe::Turns { pipe, .. } => pipe.give_end(),
             AnyPipe::Rings { pipe, .. } => pipe.give_end(),
         }
     }
@@ -95,7 +99,7 @@ impl<T: Turn + Drop> AnyPipe<T> {
     {
         match self {
             AnyPipe::Rounds(pipe) => pipe.take_output_into(out),
-            AnyPipe::Turns(pipe) => pipe.take_output_into(out),
+            AnyPipe::Turns { pipe, .. } => pipe.take_output_into(out),
             AnyPipe::Rings { pipe, .. } => pipe.take_output_into(out),
         }
     }
@@ -109,13 +113,13 @@ impl<T: Turn + Drop> AnyPipe<T> {
     {
         match self {
             AnyPipe::Rounds(pipe) => pipe.report(),
-            AnyPipe::Turns(pipe) => pipe.report(),
+            AnyPipe::Turns { pipe, .. } => pipe.report(),
             AnyPipe::Rings { pipe, .. } => pipe.report(),
         }
     }
 }
 
-/// Gives bytes at this pace, and tells how many were given: in turns and over rings all of them.
+/// Gives bytes at this pace, and tells how many were given: over rings all of them.
 pub(crate) fn give_front<R: Threads + Sync, T: Limited + Drop + Send, G: Gate + Sync>(
     rt: &R,
     pipe: &mut AnyPipe<T>,
@@ -133,7 +137,9 @@ pub(crate) fn give_front<R: Threads + Sync, T: Limited + Drop + Send, G: Gate + 
 {
     match pipe {
         AnyPipe::Rounds(pipe) => rounds::give_front(rt, pipe, gate, pace, bytes),
-        AnyPipe::Turns(pipe) => turns::give_all(pipe, bytes),
+        AnyPipe::Turns { pipe, sharing } => {
+            turns::give_front(rt, pipe, gate, pace, sharing, bytes)
+        }
         AnyPipe::Rings { pipe, .. } => rings::give_all(pipe, bytes),
     }
 }
@@ -152,7 +158,10 @@ pub(crate) fn work_off<R: Threads + Sync, T: Limited + Drop + Send, G: Gate + Sy
 {
     match pipe {
         AnyPipe::Rounds(pipe) => rounds::work_off(rt, pipe, gate),
-        AnyPipe::Turns(pipe) => turns::work_off(rt, pipe, gate),
+        AnyPipe::Turns { pipe, sharing } => {
+            turns::work_off(rt, pipe, gate, sharing.least())?;
+            Ok(())
+        }
         AnyPipe::Rings { pipe, counts } => rings::work_off(rt, pipe, gate, counts),
     }
 }

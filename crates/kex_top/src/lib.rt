@@ -20,6 +20,7 @@ mod refused;
 mod rings;
 mod rounds;
 mod serve;
+mod sharing;
 mod single;
 mod start;
 mod status;

@@ -15,7 +15,7 @@ use std::thread::Threads;
 const ENOUGH: usize = 65_536;
 
 /// So many bytes of output are written before more is given: what waits is worked off for that.
-const MUCH: usize = 1_048_576;
+pub(crate) const MUCH: usize = 1_048_576;
 
 /// When what the stages say goes out.
 #[derive(Clone, Copy, Debug, PartialEq, Eq)]
@@ -43,8 +43,8 @@ fn part_for(stages: u32, bytes: usize) -> usize
     }
 }
 
-// Whether the output is to be written before more is given.
-fn is_due<T: Turn + Drop>(pipe: &Pipe<T>) -> bool {
+/// Whether the output is to be written before more is given.
+pub(crate) fn is_due<T: Turn + Drop>(pipe: &Pipe<T>) -> bool {
     let length = pipe.output_length();
     length >= MUCH || (length >= ENOUGH && pipe.settled())
 }

@@ -1,24 +1,11 @@
-use Rattle.std.proofs.Common.{◌≡◌, ◌-◌, sym, subst, map, slice_index_or, arith}
-use Rattle.std.specs.Prelude.{All}
-use Rattle.std.proofs.lemmas.List.{with_items_is}
-use Rattle.kex_rounds.proofs.DeskKinds.{kinds-own, on-fault}
+use Rattle.kex_rounds.proofs.DeskKinds.{on-fault}
 use Rattle.kex_rounds.proofs.desks.turn_in_parts.Goals as goal
-
-pub take_back-requires-clause-own : goal.take_back-requires-clause-own
-take_back-requires-clause-own g c = λ s.
-    let kind = g.D.PartDesk.kind in
-    let desks = c.hand_out-desks.result in
-    let worked = c.work_desks.new.desks in
-    let stage = (slice_index_or c.hand_out-desks.new.pipe.seats.items (c.args.i - 1) s).staged.stage in
-    let same : map kind worked ≡ map kind desks.items = subst (λ z. map kind worked ≡ map kind z) c.deref_mut.ensures.value c.work_desks.ensures in
-    let items = with_items_is desks worked (omega (arith, c.work_desks.auto.desks, c.deref_mut.ensures.len)) in
-    subst (λ z. All (λ d. g.T.Parted.owns stage d) z) (sym items) (kinds-own kind (λ d. g.T.Parted.owns stage d) (λ a b e h. g.met.T.Parted.stays_own stage a b e h) desks.items worked same (c.hand_out-desks.ensures.own s))
 
 pub returns-clause-begins : goal.returns-clause-begins
 returns-clause-begins g c = on-fault c.turn.result
-    (λ is ps h taken s. c.turn.ensures.memory is ps h taken (c.take_back.ensures.stands ps h taken (c.hand_out-desks.ensures.stands ps h taken s)))
+    (λ is ps h taken s. c.turn.ensures.memory is ps h taken (c.share.ensures.stands ps h taken s))
     (λ is ps h taken s.
-    let on = c.take_back.ensures.stands ps h taken (c.hand_out-desks.ensures.stands ps h taken s) in
+    let on = c.share.ensures.stands ps h taken s in
     let spent = c.turn.ensures.spent.0 is in
     let going = on.going in
     cc)

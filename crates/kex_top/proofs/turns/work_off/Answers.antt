@@ -15,6 +15,7 @@ turns-preserved g c =
           (turn-made t g.met.T.Turn.one l.k ps h taken l.pipe c.turn_in_parts.new.pipe (λ k st.
           subst (λ n. Stands t ps c.turn_in_parts.new.pipe (k ++ turn_of t l.pipe.seats.items n ∷ []) taken) (let e : l.k + 1 - 1 ≡ l.k = omega arith in e) (c.in_ok-turn_in_parts.ensures.stands ps k taken st)) (l.invariant.turns ps h taken s));
       same_count = c.turn_in_parts.ensures.count ∙ l.invariant.same_count;
+      ended = c.turn_in_parts.ensures.ended ∙ l.invariant.ended;
       closed = c.turn_in_parts.ensures.closed;
     }
 
