@@ -89,7 +89,7 @@ fn transitions_of<'m>(
             Some(earlier) => copy_of(&go[usize::from(earlier)])?,
             None => {
                 walked.push(class as u8)?;
-                let next = tree.advance_with(workspace, class as u8)?;
+                let next = tree.advance_shared(workspace, class as u8)?;
                 states.follow(alloc, next)?
             }
         };

@@ -12,19 +12,17 @@ use crate::refusal::DetRefusal;
 use indexmap::IndexSet;
 use kex_code::memory::Memory;
 use kex_paths::tree::PathTree;
-use kex_sst::parts::Update;
+use kex_sst::shared::SharedUpdate;
 use kex_sst::table::Transition;
-use kex_sst::updates::Updates;
 use std::alloc::Global;
 
-/// The path trees of the states that were met, and their keys, by number; how many there may be;
-/// and the updates of transitions.
+/// The path trees of the states that were met, and their keys, by number; and how many there may
+/// be.
 #[derive(Drop)]
 pub struct States<'m> {
     pub keys: IndexSet<Vec<u32>>,
     pub trees: Vec<PathTree<'m>>,
     pub most: u32,
-    updates: Updates,
 }
 
 // The number of a key: its own, or the next.
@@ -47,7 +45,6 @@ impl<'m> States<'m> {
             keys: IndexSet::new(alloc),
             trees: Vec::new(alloc),
             most,
-            updates: Updates::new(alloc),
         }
     }
 
@@ -90,7 +87,7 @@ impl<'m> States<'m> {
     pub fn follow(
         &mut self,
         alloc: Global,
-        next: Option<(PathTree<'m>, Update)>,
+        next: Option<(PathTree<'m>, SharedUpdate)>,
     ) -> Result<Option<Transition>, DetRefusal>
         requires few { self.old.most < 4294967295 }
         requires room { length self.old.trees.items ≤ self.old.most }
@@ -107,7 +104,6 @@ impl<'m> States<'m> {
         match next {
             None => Ok(None),
             Some((tree, update)) => {
-                let update = self.updates.share(update)?;
                 let target = self.enter(alloc, tree)?;
                 Ok(Some(Transition { target, update }))
             }

@@ -28,10 +28,10 @@ module _ (c : After-alike_among) (xs : List (Shape ℕ)) (s : Shape ℕ) (n : Ar
     found : IsMetIf c.args.workspace.now next
     found = next_met c.args.workspace.now c.args.partition.now c.requires.classes s met.found c.loop-class.class within next next_is
 
-pub advance_with-requires : goal.advance_with-requires
-advance_with-requires c =
+pub advance_shared-requires : goal.advance_shared-requires
+advance_shared-requires c =
     let k = c.requires.known in
-    let top = (goal.at.advance_with-requires c).After-alike_among in
+    let top = (goal.at.advance_shared-requires c).After-alike_among in
     c.loop-class.invariant.workspace ∙ sym (met top k.0 k.1 k.2 k.3).machine
 
 pub returns-in_err-transition-in-None-clause-err : goal.returns-in_err-transition-in-None-clause-err
@@ -64,7 +64,7 @@ loop-class-preserved c =
           )
       | in-None+in_ok-push-in-None+in_ok-next-in-None+in_ok-transition-in-None w ↦ (
           let next = w.in_ok-next-in-None in
-          let same : w.advance_with.new.workspace ≡ c.args.workspace.now = next.ensures.same ∙ c.loop-class.invariant.workspace in
+          let same : w.advance_shared.new.workspace ≡ c.args.workspace.now = next.ensures.same ∙ c.loop-class.invariant.workspace in
           let done = w.in_ok-transition-in-None in
           record {
             so_far = λ xs s n at.

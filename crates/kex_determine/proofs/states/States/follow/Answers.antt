@@ -11,5 +11,4 @@ returns-in_ok-target-in-Some-clause-ok c = λ g xs n met.
     let trees = c.enter.new.self.trees.items in
     let target = c.in_ok-target-in-Some.target in
     let met_now = followed g keys trees xs w.0 c.in-Some.tree c.in-Some.update m.0 target m.1 w.1 in
-    let here = subst (λ z. IsFollowed g keys trees xs z w.0 (Some (record { target = target; update = c.in-Some.update }))) (sym c.in-Some.is) met_now in
-    (w.0, subst (λ u. IsFollowed g keys trees xs c.args.next w.0 (Some (record { target = target; update = u }))) (sym c.in_ok-update-in-Some.ensures) here)
+    (w.0, subst (λ z. IsFollowed g keys trees xs z w.0 (Some (record { target = target; update = c.in-Some.update }))) (sym c.in-Some.is) met_now)
