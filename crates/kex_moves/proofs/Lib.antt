@@ -9,3 +9,4 @@ mod PieceRuns
 mod Trails
 mod AddedRows
 pub mod SheetRuns
+mod LeapRuns

@@ -184,14 +184,3 @@ one_kind classes ws es k at lt byte row is before =
 -- an edge that is written leads to a row
 pub row_at : (t : Rows) (r b : ℕ) → HasEdgeRow t.classes t.edges r → b < length t.classes → AreEdgesWithin t → is_written (edge_at t r b).kind ≡ true → HasEdgeRow t.classes t.edges (edge_at t r b).next × LeadsBack t.classes t.edges (edge_at t r b).next
 row_at t r b row h within k = All-get_or (λ (e : Edge). is_written e.kind ≡ true → HasEdgeRow t.classes t.edges e.next × LeadsBack t.classes t.edges e.next) t.edges (r + get_or t.classes b 0) no_edge (edge_in t r b row h) within.next k
-
-pub some_left : (n : ℕ) → (n ≡ 0 → ⊥) → 0 < n
-some_left zero none = absurd (none refl)
-some_left (suc n) none = omega arith
-
--- nothing is taken where no edge is written
-pub stays_at : (t : Rows) (row class : ℕ) (e : Edge) (piece : List ℕ) → 0 < length piece → slice_get t.classes (get_or piece 0 0) ≡ Some class → slice_get t.edges (row + class) ≡ Some e → is_written e.kind ≡ false → run_of t row piece ≡ record { written = []; row = row; left = piece }
-stays_at t row class e piece some is edge none =
-    let b = get_or piece 0 0 in
-    let step : edge_step t row b ≡ None = ap (λ c. by_edge t.text b (slice_get t.edges (row + c))) (get_or_from_slice_get t.classes b class 0 is) ∙ ap (by_edge t.text b) edge ∙ ap (λ x. cond x (Some (record { row = e.next; writes = writes t.text e b })) None) none in
-    sym (stops t row [] piece 0 some step)

@@ -15,12 +15,14 @@ ghost use Rattle.kex_moves.specs.Along.{ReachedOn, GoesAlong, with_sheet, writte
 
 use crate::edge::{Edge, EdgeKind};
 use crate::edges::Edges;
+use crate::leap::leap_at;
 use crate::learn::{learn_edge, row_for};
 use crate::run::Halt;
 use kex_action::action::Action;
 use kex_action::actor::Actor;
 use kex_action::sheet::Sheet;
 use kex_code::memory::Memory;
+use kex_leaps::leaps::Leaps;
 use kex_machine::Trimmed;
 use kex_sst::table::Table;
 use std::alloc::Global;
@@ -381,12 +383,13 @@ pub fn part_of<T>(piece: &[T]) -> &[T]
     }
 }
 
-// Goes on from a row over a part of a piece, and learns the edge of the byte behind it.
-fn go_on(
+// Learns the edge of the first byte of a piece. Where there is none, goes along a leap.
+fn go_past(
     alloc: Global,
     table: &Table,
     machine: &Trimmed,
     edges: &mut Edges,
+    leaps: &mut Leaps,
     sheet: &mut Sheet,
     row: usize,
     actor: &mut Actor,
@@ -395,6 +398,49 @@ fn go_on(
 ) -> Result<RowStride, Memory>
     requires usable { IsTrue actor.old.usable }
     requires machine { actor.old.machine ≡ machine.now }
+    requires rows { (leaps.old.table ≡ table.now) × (leaps.old.machine ≡ machine.now) }
+    requires known { IsKnown table.now machine.now edges.old }
+    requires row { (p : Pair) × IsPairRow edges.old row p }
+    requires some { 0 < length piece.now }
+    requires sheet { IsSheet sheet.old }
+    requires room { length sheet.old.bytes.items ≡ ROOM }
+    ensures known { IfOk result (λ s. IsKnown table.now machine.now edges.new) }
+    ensures within { IfOk result (λ s. s.count ≤ length piece.now) }
+    ensures reached { IfOk result (λ s. ReachedOn table.now edges.old edges.new actor.old actor.new
+        sheet.old sheet.new row s.row (take s.count piece.now) out.old.items out.new.items) }
+    ensures sheet { OnOk result (IsSheet sheet.new × IsAsLong sheet.old sheet.new) }
+    ensures rows { (leaps.new.table ≡ leaps.old.table)
+        × (leaps.new.machine ≡ leaps.old.machine) }
+    ensures machine { actor.new.machine ≡ actor.old.machine }
+    ensures usable { OnOk result (IsTrue actor.new.usable) }
+{
+    if !learn_at(alloc, table, machine, edges, row, piece[0])? {
+        return Ok(RowStride {
+            count: 0,
+            row,
+            stops: false,
+        });
+    }
+    let gone = leap_at(leaps, edges, row, actor, sheet, piece, out)?;
+    Ok(gone)
+}
+
+// Goes on from a row over a part of a piece, and past the byte behind it.
+fn go_on(
+    alloc: Global,
+    table: &Table,
+    machine: &Trimmed,
+    edges: &mut Edges,
+    leaps: &mut Leaps,
+    sheet: &mut Sheet,
+    row: usize,
+    actor: &mut Actor,
+    piece: &[u8],
+    out: &mut Vec<u8>,
+) -> Result<RowStride, Memory>
+    requires usable { IsTrue actor.old.usable }
+    requires machine { actor.old.machine ≡ machine.now }
+    requires rows { (leaps.old.table ≡ table.now) × (leaps.old.machine ≡ machine.now) }
     requires known { IsKnown table.now machine.now edges.old }
     requires row { (q : ℕ) × (n : ℕ) × HasRowFor edges.old row q n }
     requires sheet { IsSheet sheet.old }
@@ -404,6 +450,8 @@ fn go_on(
     ensures reached { IfOk result (λ s. ReachedOn table.now edges.old edges.new actor.old actor.new
         sheet.old sheet.new row s.row (take s.count piece.now) out.old.items out.new.items) }
     ensures sheet { OnOk result (IsSheet sheet.new × IsAsLong sheet.old sheet.new) }
+    ensures rows { (leaps.new.table ≡ leaps.old.table)
+        × (leaps.new.machine ≡ leaps.old.machine) }
     ensures machine { actor.new.machine ≡ actor.old.machine }
     ensures usable { OnOk result (IsTrue actor.new.usable) }
 {
@@ -411,18 +459,22 @@ fn go_on(
     let part = part_of(piece);
     let place = along_acting(edges, row, part, actor, sheet, out)?;
     let count = place.count;
+    let row = place.row;
     if count == piece.len() {
         return Ok(RowStride {
             count,
-            row: place.row,
+            row,
             stops: true,
         });
     }
-    let stops = learn_at(alloc, table, machine, edges, place.row, piece[count])?;
+    let rest = &piece[count..];
+    let past = go_past(
+        alloc, table, machine, edges, leaps, sheet, row, actor, rest, out,
+    )?;
     Ok(RowStride {
-        count,
-        row: place.row,
-        stops,
+        count: count + past.count,
+        row: past.row,
+        stops: past.stops,
     })
 }
 
@@ -449,6 +501,7 @@ fn run_from(
     table: &Table,
     machine: &Trimmed,
     edges: &mut Edges,
+    leaps: &mut Leaps,
     sheet: &mut Sheet,
     from: usize,
     actor: &mut Actor,
@@ -457,6 +510,7 @@ fn run_from(
 ) -> Result<Ran, Memory>
     requires usable { IsTrue actor.old.usable }
     requires machine { actor.old.machine ≡ machine.now }
+    requires rows { (leaps.old.table ≡ table.now) × (leaps.old.machine ≡ machine.now) }
     requires known { IsKnown table.now machine.now edges.old }
     requires row { (q : ℕ) × HasRowFor edges.old from q actor.old.at }
     requires room { length sheet.old.bytes.items ≡ ROOM }
@@ -468,6 +522,8 @@ fn run_from(
         (take ran.count piece.now) out.old.items out.new.items) }
     ensures none { OnOk result (IsBlank sheet.new) }
     ensures room { OnOk result (IsAsLong sheet.old sheet.new) }
+    ensures rows { (leaps.new.table ≡ leaps.old.table)
+        × (leaps.new.machine ≡ leaps.old.machine) }
     ensures machine { actor.new.machine ≡ actor.old.machine }
     ensures usable { OnOk result (IsTrue actor.new.usable) }
 {
@@ -476,28 +532,15 @@ fn run_from(
     let mut left = piece.len();
     'rounds: while left > 0 {
         let rest = &piece[at..];
-        let gone = go_on(alloc, table, machine, edges, sheet, row, actor, rest, out)?;
+        let gone = go_on(
+            alloc, table, machine, edges, leaps, sheet, row, actor, rest, out,
+        )?;
         at += gone.count;
         row = gone.row;
         left = rounds_left(gone.stops, left);
     }
     let state = arrive(edges, row, actor, sheet, out)?;
     Ok(Ran { count: at, state })
-}
-
-// Whether a piece is empty, or a plain step is to be taken at its first byte.
-fn ends_at(edges: &Edges, row: usize, piece: &[u8]) -> bool
-    requires { (p : Pair) × IsPairRow edges.now row p }
-    ensures { IsTrue result → run_of (rows_of edges.now) row piece.now
-        ≡ record { written = []; row = row; left = piece.now } }
-{
-    if piece.is_empty() {
-        return true;
-    }
-    match edges.edge_at(row, edges.class_of(piece[0])).kind {
-        EdgeKind::Plain => true,
-        _ => false,
-    }
 }
 
 /// Goes on from a state, as far as edges go. Nothing is taken where the actor doesn't rest, or
@@ -507,6 +550,7 @@ pub fn run_at(
     table: &Table,
     machine: &Trimmed,
     edges: &mut Edges,
+    leaps: &mut Leaps,
     sheet: &mut Sheet,
     state: u32,
     actor: &mut Actor,
@@ -515,6 +559,7 @@ pub fn run_at(
 ) -> Result<Ran, Memory>
     requires usable { IsTrue actor.old.usable }
     requires machine { actor.old.machine ≡ machine.now }
+    requires rows { (leaps.old.table ≡ table.now) × (leaps.old.machine ≡ machine.now) }
     requires known { IsKnown table.now machine.now edges.old }
     requires room { length sheet.old.bytes.items ≡ ROOM }
     requires none { IsBlank sheet.old }
@@ -524,14 +569,18 @@ pub fn run_at(
         (take ran.count piece.now) out.old.items out.new.items) }
     ensures none { OnOk result (IsBlank sheet.new) }
     ensures room { OnOk result (IsAsLong sheet.old sheet.new) }
+    ensures rows { (leaps.new.table ≡ leaps.old.table)
+        × (leaps.new.machine ≡ leaps.old.machine) }
     ensures machine { actor.new.machine ≡ actor.old.machine }
     ensures usable { OnOk result (IsTrue actor.new.usable) }
 {
     let Some(row) = row_for(machine, edges, table.states().len(), state, actor.node())? else {
         return Ok(Ran { count: 0, state });
     };
-    if ends_at(edges, row, piece) {
+    if piece.is_empty() {
         return Ok(Ran { count: 0, state });
     }
-    run_from(alloc, table, machine, edges, sheet, row, actor, piece, out)
+    run_from(
+        alloc, table, machine, edges, leaps, sheet, row, actor, piece, out,
+    )
 }

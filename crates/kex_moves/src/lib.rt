@@ -19,6 +19,7 @@ mod along;
 mod edge;
 mod edges;
 mod follow;
+mod leap;
 mod learn;
 pub mod moves;
 pub mod phrases;

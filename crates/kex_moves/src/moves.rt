@@ -9,6 +9,7 @@ use crate::edges::{By, Edges};
 use kex_action::actor::Actor;
 use kex_action::sheet::Sheet;
 use kex_code::memory::Memory;
+use kex_leaps::leaps::Leaps;
 use kex_machine::Trimmed;
 use kex_sst::table::Table;
 use std::alloc::Global;
@@ -25,6 +26,7 @@ pub struct Moves<'p> {
     table: &'p Table,
     machine: &'p Trimmed,
     edges: Edges,
+    leaps: Leaps<'p>,
     sheet: Sheet,
     usable: bool,
 }
@@ -40,8 +42,10 @@ impl<'p> Model for Moves<'p> {
 
     ghost view = { λ m. record { table = m.table.now; machine = m.machine.now } };
 
-    ghost invariant = { λ m. IsTrue m.usable → IsKnown m.table.now m.machine.now m.edges
-        × IsBlank m.sheet × (length m.sheet.bytes.items ≡ ROOM) };
+    ghost invariant = { λ m. (m.leaps.table ≡ m.table.now)
+        × (m.leaps.machine ≡ m.machine.now) × (IsTrue m.usable
+        → IsKnown m.table.now m.machine.now m.edges × IsBlank m.sheet
+        × (length m.sheet.bytes.items ≡ ROOM)) };
 }
 
 // The classes of all bytes.
@@ -77,12 +81,14 @@ impl<'p> Moves<'p> {
         let shift = shift_of(table.partition().classes());
         let states = table.states().len();
         let edges = Edges::new(alloc, classes_of(table), shift, By::State, states)?;
+        let leaps = Leaps::new(alloc, table, machine)?;
         let sheet = Sheet::new(alloc, ROOM)?;
         Ok(Moves {
             alloc,
             table,
             machine,
             edges,
+            leaps,
             sheet,
             usable: true,
         })
@@ -115,6 +121,7 @@ impl<'p> Moves<'p> {
             self.table,
             self.machine,
             &mut self.edges,
+            &mut self.leaps,
             &mut self.sheet,
             state,
             actor,

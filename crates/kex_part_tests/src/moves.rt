@@ -32,12 +32,17 @@ fn run(alloc: Global, text: &str, piece: &[u8]) -> Result<(usize, Vec<u8>), Fail
     run_along(alloc, &table, plan.machine(), piece)
 }
 
-// Bytes alone and nothing in runs, a text with the byte in it, and registers of the program.
+// Bytes alone and nothing in runs, a text with the byte in it, registers of the program, and text
+// that is held back up to a byte that settles what goes before it.
 const RUNS: &str = r#"
 main := /[a-z;]*/ => one;two;three; => one;two;three;
 main := (~/[a-z]/ | /;/)* => one;two;three; => ;;;
 main := (~/,/ "; " /[a-z]/ "." | /[a-z]/ | /;/)* => one,two,three; => one; t.wo; t.hree;
 main := (a@/[a-z]*/ ~/,/ b@/[a-z]*/ !b "," !a /;/)* => one,two;three,four; => two,one;four,three;
+main := ("1 " /[a-z]*!/ | "0 " /[a-z]*;/)* => ab;cd!;x! => 0 ab;1 cd!0 ;1 x!
+main := (/[0-9]{1,3}/ ("," /[0-9]{3}/)* /;/)* => 1;1234;12345;1234567; => 1;1,234;12,345;1,234,567;
+main := (~/<[a-z]*>/ | /[<a-z;]/)* => a<b>c;<d; => ac;<d;
+main := (a@/[a-z]*/ ~/=/ "[" !a "]" /;/ | /[a-z]*;/)* => ab=;cd;ef=; => [ab];cd;[ef];
 "#;
 
 #[test]

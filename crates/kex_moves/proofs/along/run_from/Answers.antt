@@ -8,6 +8,7 @@ use Rattle.kex_moves.proofs.along.run_from.Goals as goal
 pub rounds-init : goal.rounds-init
 rounds-init c = record {
   at = omega arith;
+  rows = (refl, refl);
   known = c.requires.known;
   machine = c.requires.machine;
   usable = c.requires.usable;
@@ -18,6 +19,9 @@ rounds-init c = record {
 
 pub go_on-requires-clause-row : goal.go_on-requires-clause-row
 go_on-requires-clause-row c = let r = c.rounds.invariant.reached c.requires.row.0 c.args.actor.now.at c.requires.row.1 in (r.reached.state, r.node, r.reached.row_for)
+
+pub go_on-requires-clause-rows : goal.go_on-requires-clause-rows
+go_on-requires-clause-rows c = (c.rounds.invariant.rows.0 ∙ c.requires.rows.0, c.rounds.invariant.rows.1 ∙ c.requires.rows.1)
 
 pub rounds-preserved : goal.rounds-preserved
 rounds-preserved c =
@@ -31,6 +35,7 @@ rounds-preserved c =
     let next = reached_on t c.args.edges.now c.rounds.edges c.go_on.new.edges c.args.actor.now c.rounds.actor c.go_on.new.actor c.args.sheet.now c.rounds.sheet c.go_on.new.sheet c.args.from c.rounds.row gone.row (take at piece) (take gone.count part) c.args.out.now.items c.rounds.out.items c.go_on.new.out.items c.rounds.invariant.reached e.reached in
     record {
       at = omega (arith, e.within, length-take n (drop at piece), length-drop at piece, c.rounds.invariant.at);
+      rows = (e.rows.0 ∙ c.rounds.invariant.rows.0, e.rows.1 ∙ c.rounds.invariant.rows.1);
       known = e.known;
       machine = e.machine ∙ c.rounds.invariant.machine;
       usable = e.usable;

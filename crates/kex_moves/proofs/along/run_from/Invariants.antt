@@ -7,6 +7,7 @@ use Rattle.kex_moves.proofs.along.run_from.Given as goal
 abbrev pub invariant-rounds : goal.invariant-rounds
 invariant-rounds l = record {
   at : l.at ≤ length l.piece;
+  rows : (l.leaps.table ≡ l.fn.leaps.table) × (l.leaps.machine ≡ l.fn.leaps.machine);
   known : IsKnown l.table l.machine l.edges;
   machine : l.actor.machine ≡ l.machine;
   usable : IsTrue l.actor.usable;
