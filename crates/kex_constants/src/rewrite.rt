@@ -79,6 +79,8 @@ fn clear(alloc: Global, update: &Update, from: &Known, to: &Known) -> Result<Upd
     for (register, parts) in update.regs().iter().enumerate() {
         put_list(alloc, parts, register, from, to, &mut regs)?;
     }
+    // Mostly few registers are kept.
+    regs.shrink_to_fit();
     Ok(Update::new(out, regs))
 }
 
