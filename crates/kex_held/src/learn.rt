@@ -9,6 +9,7 @@ use crate::keep::{points_to_keep, renumber_texts};
 use crate::list::{list_of, texts_of};
 use crate::row::{LearntEdge, TextRow};
 use crate::track::{track, track_edges};
+use crate::upper::byte_of;
 use kex_code::memory::Memory;
 use kex_machine::Trimmed;
 use kex_sst::table::Table;
@@ -89,6 +90,7 @@ pub fn learn_edge(
         texts,
         target,
         out.to(),
+        byte_of(table.partition(), class),
         update.regs(),
     )?;
     let Some(tracked) = tracked else {

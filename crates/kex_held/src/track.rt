@@ -6,7 +6,7 @@ ghost use Rattle.kex_held.specs.Tracks.{TracksAny, GoesBy, StepsBy, own_all};
 
 use crate::item::RegisterText;
 use crate::link::Link;
-use crate::upper::{Place, upper_end};
+use crate::upper::{Place, able_nodes, start_of, upper_end};
 use crate::walk::learn_to_rest;
 use kex_action::action::Action;
 use kex_code::memory::Memory;
@@ -205,12 +205,37 @@ fn track_from_any(
     Ok(None)
 }
 
+// The nodes from which the list of parts of a register may be told, the likeliest first.
+fn starts_of(
+    alloc: Global,
+    table: &Table,
+    machine: &Trimmed,
+    texts: &[RegisterText],
+    known: &[Tracked],
+    forks: &[u32],
+    parts: &[Part],
+    byte: u8,
+    place: Place,
+) -> Result<Vec<u32>, Memory> {
+    let mut able = able_nodes(alloc, machine, texts, forks, parts, byte)?;
+    let start = match start_of(texts, parts) {
+        Some(start) => Some(start),
+        None if able.len() == 1 => None,
+        None => upper_end(alloc, table, machine, known, place)?,
+    };
+    if let Some(start) = start {
+        able.insert(0, start)?;
+    }
+    Ok(able)
+}
+
 /// The lists of parts of new registers of a state, each from the upper end of its edge of the path
 /// tree. `None` says nothing.
 ///
-/// An upper end is told by what comes later, or found by trying nodes with a choice to which the
-/// root or a lower end leads without a byte. Nothing rests on that: what is tracked is right from
-/// whichever node.
+/// A list that goes on with an old register begins where that begins. Another upper end is a node
+/// with a choice, to which the root or a lower end leads without a byte, and from which the list
+/// can be taken where the byte is read. Where there are several it is told by what comes later.
+/// Nothing rests on that: what is tracked is right from whichever node.
 pub fn track_edges(
     alloc: Global,
     table: &Table,
@@ -218,6 +243,7 @@ pub fn track_edges(
     texts: &[RegisterText],
     state: u32,
     root: u32,
+    byte: u8,
     lists: &[Parts],
 ) -> Result<Option<Vec<Tracked>>, Memory>
     ensures { IfOk result (λ o.
@@ -235,10 +261,11 @@ pub fn track_edges(
             root,
             register,
         };
-        if let Some(upper) = upper_end(alloc, table, machine, &all, place)? {
-            forks.insert(0, upper)?;
-        }
-        let tracked = track_from_any(alloc, machine, texts, &forks, parts.as_slice())?;
+        let list = parts.as_slice();
+        let starts = starts_of(
+            alloc, table, machine, texts, &all, &forks, list, byte, place,
+        )?;
+        let tracked = track_from_any(alloc, machine, texts, &starts, list)?;
         let Some(tracked) = tracked else {
             return Ok(None);
         };

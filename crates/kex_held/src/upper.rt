@@ -4,7 +4,9 @@
 // does. But what is passed on later says it, where it takes the register behind what is known.
 // Nothing rests on the answer.
 
+use crate::item::RegisterText;
 use crate::track::Tracked;
+use kex_byteset::Partition;
 use kex_code::memory::Memory;
 use kex_code::symbol::Symbol;
 use kex_machine::{MNode, Trimmed};
@@ -46,6 +48,86 @@ fn rest(machine: &Trimmed, node: u32) -> u32 {
         }
     }
     at
+}
+
+/// A byte of a class.
+pub fn byte_of(partition: &Partition, class: u8) -> u8 {
+    for byte in 0..256_usize {
+        if partition.class_of(byte as u8) == class {
+            return byte as u8;
+        }
+    }
+    0
+}
+
+// Where a part leads from a node at which a symbol or the end comes next, where a byte is read and
+// the registers hold these texts.
+fn next_by(
+    machine: &Trimmed,
+    texts: &[RegisterText],
+    at: u32,
+    part: Part,
+    byte: u8,
+) -> Option<u32> {
+    match (machine.nodes().get(at as usize)?, part) {
+        (_, Part::Old(register)) => {
+            let text = texts.get(register as usize)?;
+            if text.from() == at {
+                Some(text.to())
+            } else {
+                None
+            }
+        }
+        (MNode::Choice(left, _), Part::Put(Symbol::L)) => Some(*left),
+        (MNode::Choice(_, right), Part::Put(Symbol::R)) => Some(*right),
+        (MNode::Forced(_, next), Part::Put(_)) => Some(*next),
+        (MNode::Read(set, next), Part::Input) if set.has(byte) => Some(*next),
+        _ => None,
+    }
+}
+
+// Whether parts can be taken from a node, where a byte is read.
+fn can_take(
+    machine: &Trimmed,
+    texts: &[RegisterText],
+    from: u32,
+    parts: &[Part],
+    byte: u8,
+) -> bool {
+    let mut at = rest(machine, from);
+    for part in parts {
+        let Some(next) = next_by(machine, texts, at, *part, byte) else {
+            return false;
+        };
+        at = rest(machine, next);
+    }
+    true
+}
+
+/// Those of some nodes from which parts can be taken where a byte is read, each once.
+pub fn able_nodes(
+    alloc: Global,
+    machine: &Trimmed,
+    texts: &[RegisterText],
+    nodes: &[u32],
+    parts: &[Part],
+    byte: u8,
+) -> Result<Vec<u32>, Memory> {
+    let mut able = Vec::new(alloc);
+    for node in nodes {
+        if !able.contains(node) && can_take(machine, texts, *node, parts, byte) {
+            able.push(*node)?;
+        }
+    }
+    Ok(able)
+}
+
+/// The node at which a list begins that goes on with an old register.
+pub fn start_of(texts: &[RegisterText], parts: &[Part]) -> Option<u32> {
+    match parts.first() {
+        Some(Part::Old(register)) => Some(texts.get(*register as usize)?.from()),
+        _ => None,
+    }
 }
 
 // Where choices lead from a node, up to the first register.
