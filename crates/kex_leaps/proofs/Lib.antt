@@ -1,2 +1,3 @@
 mod RowScans
 mod LeapEffects
+mod KeptMarks

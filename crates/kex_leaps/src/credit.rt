@@ -1,12 +1,12 @@
 // How much is learnt.
 
-/// How many edges are learnt at once.
-const FIRST: u64 = 256;
+/// How much is learnt at once: for an edge of a row as much as the row has lists, and one more.
+const FIRST: u64 = 2_048;
 
-/// One more is learnt for so many scans.
-const SCANS: u64 = 1_024;
+/// So many scans allow for one more.
+const SCANS: u64 = 64;
 
-/// How many scans there were, and how many edges were learnt.
+/// How many scans there were, and how much was learnt.
 #[derive(Clone, Copy, Debug, PartialEq, Eq)]
 pub struct Credit {
     scans: u64,
@@ -27,13 +27,13 @@ impl Credit {
         self.scans = self.scans.saturating_add(1);
     }
 
-    /// Whether one more edge may be learnt. It counts then.
-    pub fn spend(&mut self) -> bool {
+    /// Whether an edge of a row with so many lists may be learnt. It counts then.
+    pub fn spend(&mut self, lists: usize) -> bool {
         let most = FIRST.saturating_add(self.scans / SCANS);
         if self.learnt >= most {
             return false;
         }
-        self.learnt = self.learnt.saturating_add(1);
+        self.learnt = self.learnt.saturating_add(lists as u64).saturating_add(1);
         true
     }
 }

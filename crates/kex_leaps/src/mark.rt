@@ -1,6 +1,7 @@
 // Marks in a piece, and what is to be done along it.
 
-ghost use Rattle.std.specs.Prelude.{◌≡◌, ◌<◌, ◌+◌, ◌^◌, ◌++◌, [], OnOk, length, get_or};
+ghost use Rattle.std.specs.Prelude.{◌≡◌, ◌<◌, ◌≤◌, ◌+◌, ◌^◌, ◌++◌, ℕ, [], false, IsTrue, IfOk};
+ghost use Rattle.std.specs.Prelude.{OnOk, length, get_or};
 ghost use Rattle.kex_held.specs.Slices.{IsItemWithin, AreItemsWithin, AreKept, marks_by};
 ghost use Rattle.kex_held.specs.Windows.{points_at};
 ghost use Rattle.kex_leaps.specs.Leaps.{leap_act, leap_acts};
@@ -84,6 +85,73 @@ fn put_points(marks: &[usize], at: usize, keep: &[u8], out: &mut Vec<usize>) -> 
     Ok(())
 }
 
+// How many of the points that stay are the first ones, in their order.
+#[inline(always)]
+fn count_firsts(keep: &[u8]) -> usize
+    ensures within { result ≤ length keep.now }
+    ensures first { (i : ℕ) → i < result → get_or keep.now i 0 ≡ i }
+{
+    for (i, point) in keep.iter().enumerate() {
+        if *point as usize != i {
+            return i;
+        }
+    }
+    keep.len()
+}
+
+// Whether one point alone stays behind so many, and is the place of the byte behind so many marks.
+#[inline(always)]
+fn ends_at_byte(keep: &[u8], front: usize, marks: usize) -> bool
+    ensures { IsTrue result → (length keep.now ≡ front + 1) × (get_or keep.now front 0 ≡ marks) }
+{
+    if keep.len() == 0 || keep.len() - 1 != front {
+        return false;
+    }
+    keep[front] as usize == marks
+}
+
+// Keeps points as marks where those are the first marks alone, or these and then the place of the
+// byte. Tells whether it is so.
+#[inline(always)]
+fn keep_front(marks: &mut Vec<usize>, at: usize, keep: &[u8]) -> Result<bool, Memory>
+    ensures kept { IfOk result (λ b. IsTrue b
+        → marks.new.items ≡ marks_by (points_at at marks.old.items) keep.now) }
+    ensures same { IfOk result (λ b. b ≡ false → marks.new.items ≡ marks.old.items) }
+{
+    let front = count_firsts(keep).min(marks.len());
+    if front == keep.len() {
+        marks.truncate(front);
+        return Ok(true);
+    }
+    if ends_at_byte(keep, front, marks.len()) {
+        marks.truncate(front);
+        marks.push(at)?;
+        return Ok(true);
+    }
+    Ok(false)
+}
+
+// Keeps some points as marks.
+#[inline(always)]
+fn keep_points(
+    marks: &mut Vec<usize>,
+    spare: &mut Vec<usize>,
+    at: usize,
+    keep: &[u8],
+) -> Result<(), Memory>
+    requires fits { at + 1 < 2 ^ 64 }
+    requires kept { AreKept (length marks.old.items + 2) keep.now }
+    ensures { OnOk result (marks.new.items ≡ marks_by (points_at at marks.old.items) keep.now) }
+{
+    if keep_front(marks, at, keep)? {
+        return Ok(());
+    }
+    spare.clear();
+    put_points(marks, at, keep, spare)?;
+    mem::swap(marks, spare);
+    Ok(())
+}
+
 impl Trace {
     /// No marks, and nothing to do.
     pub fn new(alloc: Global) -> Trace {
@@ -115,9 +183,6 @@ impl Trace {
             ≡ marks_by (points_at at self.old.marks.items) edge.now.keep) }
     {
         put_acts(&self.marks, at, edge.outs(), &mut self.acts)?;
-        self.spare.clear();
-        put_points(&self.marks, at, edge.keep(), &mut self.spare)?;
-        mem::swap(&mut self.marks, &mut self.spare);
-        Ok(())
+        keep_points(&mut self.marks, &mut self.spare, at, edge.keep())
     }
 }

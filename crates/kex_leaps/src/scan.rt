@@ -1,9 +1,10 @@
 // How rows of held text are gone along.
 
-ghost use Rattle.std.specs.Prelude.{◌≡◌, ◌<◌, ◌≤◌, ℕ, [], Some, IfOk, IfSome, IsTrue, length};
+ghost use Rattle.std.specs.Prelude.{◌≡◌, ◌<◌, ◌≤◌, ℕ, List, [], Some, IfOk, IfSome, IsTrue, length};
 ghost use Rattle.std.specs.Prelude.{slice_get, take};
 ghost use Rattle.kex_held.specs.HeldRows.{HeldRow};
 ghost use Rattle.kex_held_rows.specs.Books.{rows_in, KeepsRows};
+ghost use Rattle.kex_leaps.specs.declared.act.LeapAct.{LeapAct};
 ghost use Rattle.kex_leaps.specs.declared.scan.ScanEnd.{ScanEnd};
 ghost use Rattle.kex_leaps.specs.Leaps.{acts_in, AreActsWithin, bare_row, IsLeap};
 ghost use Rattle.kex_leaps.specs.Leaps.{HasScanned};
@@ -58,6 +59,31 @@ fn is_bare(ledger: &RowLedger, row: u32) -> bool
     ledger.row_at(row as usize).texts().is_empty()
 }
 
+// How far a row stays along a piece.
+#[inline(always)]
+fn stay(ledger: &RowLedger, table: &Table, row: u32, piece: &[u8], from: usize) -> usize
+    requires table { table.now ≡ ledger.now.table }
+    requires row { row < length ledger.now.rows }
+    requires from { from ≤ length piece.now }
+    ensures behind { from ≤ result }
+    ensures within { result ≤ length piece.now }
+    ensures stays { (q n : ℕ) (marks : List ℕ) (acts : List LeapAct) → HasScanned ledger.now.table
+        ledger.now.machine.nodes (rows_in ledger.now.rows) q n piece.now from row marks acts
+        → HasScanned ledger.now.table ledger.now.machine.nodes (rows_in ledger.now.rows) q n
+        piece.now result row marks acts }
+{
+    let partition = table.partition();
+    let mut at = from;
+    'bytes: while at < piece.len() {
+        let class = partition.class_of(piece[at]);
+        match ledger.note_at(row as usize, class) {
+            RowNote::Stays => at += 1,
+            _ => return at,
+        }
+    }
+    at
+}
+
 /// Goes along a piece by what is noted of rows, up to a row that holds nothing, or a byte at which
 /// no edge is known.
 pub fn scan_on(
@@ -89,7 +115,7 @@ pub fn scan_on(
     'bytes: while at < piece.len() {
         let class = partition.class_of(piece[at]);
         match ledger.note_at(row as usize, class) {
-            RowNote::Stays => at += 1,
+            RowNote::Stays => at = stay(ledger, table, row, piece, at + 1),
             RowNote::Goes(edge) => {
                 trace.take(edge, at)?;
                 row = edge.to();
@@ -159,7 +185,7 @@ pub fn scan_from(
             ScanEnd::Bare => return Ok(Some(point)),
             ScanEnd::Nowhere => return Ok(None),
             ScanEnd::Unknown => {
-                if !credit.spend() {
+                if !credit.spend(ledger.row_at(stop.row as usize).texts().len()) {
                     return Ok(None);
                 }
                 learn_at(ledger, table, stop.row, piece[stop.at])?;

@@ -40,6 +40,16 @@ returns-in-Bare-clause-bare c = (c.in_ok-stop.ensures {u = tt}).bare c.in-Bare.i
 pub learn_at-requires-clause-table : goal.learn_at-requires-clause-table
 learn_at-requires-clause-table c = c.requires.table ∙ sym c.rounds.invariant.keeps.table
 
+pub row_at-requires : goal.row_at-requires
+row_at-requires c =
+    let b = c.args.ledger.now in
+    let m = c.rounds.ledger in
+    let r = c.requires.first in
+    let k = c.rounds.invariant.keeps in
+    let before = scan_over b.table m.table b.machine m.machine (rows_in m.rows) r.0 r.1 c.args.piece.now c.rounds.point.at c.rounds.point.row c.rounds.trace.marks.items c.rounds.trace.acts.items (sym k.table) (sym k.machine) (c.rounds.invariant.scanned r.0 r.1 r.2) in
+    let s = (c.in_ok-stop.ensures {u = tt}).scanned r.0 r.1 before in
+    row_in m.rows c.in_ok-stop.stop.row s.to s.is
+
 pub learn_at-requires-clause-row : goal.learn_at-requires-clause-row
 learn_at-requires-clause-row c =
     let b = c.args.ledger.now in

@@ -43,13 +43,21 @@ bytes-preserved-in-Stays c =
     let class = c.class_of-class.result in
     let long = subst (λ (t : Transducer). length t.classes ≡ 256) c.requires.table c.partition-partition.ensures.table.numbered.long in
     let is = class_is b.table.classes byte class long ((c.type_inv.piece i).fits) (c.class_of-class.ensures.class ∙ ap (λ z. class_at z byte) (c.partition-partition.ensures.same ∙ ap (λ (t : Transducer). t.classes) c.requires.table)) in
+    let marks = c.bytes.trace.marks.items in
+    let acts = c.bytes.trace.acts.items in
     record {
-      at = omega (arith, c.bytes-test.true);
+      at = c.stay-at.ensures.within;
       scanned = λ q n s0.
           let s = c.bytes.invariant.scanned q n s0 in
           let stays = subst (IsNoteRight b.table b.machine.nodes rows s.to class) c.in-Stays.is (c.note_at.ensures s.to s.is) in
-          scan_stays b.table b.machine.nodes rows q n piece i c.bytes.row class c.bytes.trace.marks.items c.bytes.trace.acts.items s c.bytes-test.true is stays;
+          c.stay-at.ensures.stays q n marks acts (scan_stays b.table b.machine.nodes rows q n piece i c.bytes.row class marks acts s c.bytes-test.true is stays);
     }
+
+pub stay-at-requires-clause-row : goal.stay-at-requires-clause-row
+stay-at-requires-clause-row c =
+    let r = c.requires.scanned in
+    let s = c.bytes.invariant.scanned r.0 r.1 r.2 in
+    row_in c.args.ledger.now.rows c.bytes.row s.to s.is
 
 pub is_bare-requires : goal.is_bare-requires
 is_bare-requires c =
