@@ -21,6 +21,9 @@ use kex_sst::table::Table;
 use std::alloc::Global;
 use std::sync::ledger::Ledger;
 
+// Behind so many bytes a runner stops wherever it has no registers.
+const PATIENCE: usize = 64;
+
 /// So many bytes of a piece were taken, of which so many are good: all, or all but the last, at
 /// which the table stops.
 #[derive(Clone, Copy)]
@@ -131,9 +134,9 @@ impl TablePlace {
         Ok(piece.len())
     }
 
-    /// Follows the table along a piece, up to a byte at which it stops, or one behind the first
-    /// that leads from no registers to none: what is learnt goes over those faster. What is passed
-    /// on is put behind pieces.
+    /// Follows the table along a piece, up to a byte at which it stops, or one at which there are
+    /// no registers: where the next state has none either, or many bytes were taken. What is learnt
+    /// goes on faster from there. What is passed on is put behind pieces.
     pub fn follow_held(
         &mut self,
         table: &Table,
@@ -165,8 +168,8 @@ impl TablePlace {
                     good: at,
                 });
             }
-            let bare = self.registers.len() == 0 && entry.registers == 0;
-            if bare && at > 0 {
+            let bare = self.registers.len() == 0;
+            if bare && at > 0 && (entry.registers == 0 || at >= PATIENCE) {
                 break;
             }
             let rest = &piece[at..];

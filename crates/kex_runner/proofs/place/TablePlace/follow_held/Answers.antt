@@ -89,8 +89,8 @@ bytes-preserved-then-count-eq0 c =
       runner = runner_next t s state class b e c.bytes.self.registers c.take.new.self c.bytes.invariant.runner k left c.take.ensures.counted;
     }
 
-pub returns-then-at-gt0-clause-follows : goal.returns-then-at-gt0-clause-follows
-returns-then-at-gt0-clause-follows c =
+pub returns-then-at-ge-PATIENCE-clause-follows : goal.returns-then-at-ge-PATIENCE-clause-follows
+returns-then-at-ge-PATIENCE-clause-follows c =
     let s = c.args.guide.now.script in
     let i = c.bytes.at in
     follows_front c.args.table.now c.args.self.now.state (contents s c.args.self.now.registers) c.args.piece.now i i c.bytes.self.state (contents s c.bytes.self.registers) (code_over s.words c.args.pieces.now.items) (code_over s.words c.bytes.pieces.items) (omega (arith, c.bytes-test.true)) (omega arith) (λ lt. absurd (omega (arith, lt))) c.bytes.invariant.goes
