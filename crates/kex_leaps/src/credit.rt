@@ -1,4 +1,4 @@
-// How much is learnt.
+// How much is learnt, and when leaps are looked for.
 
 /// How much is learnt at once: for an edge of a row as much as the row has lists, and one more.
 const FIRST: u64 = 2_048;
@@ -6,25 +6,51 @@ const FIRST: u64 = 2_048;
 /// So many scans allow for one more.
 const SCANS: u64 = 64;
 
-/// How many scans there were, and how much was learnt.
+/// Behind so many scans in a row that found no leap there is a rest, and behind each more.
+const FRUITLESS: u32 = 16;
+
+/// For so long no leap is looked for then.
+const REST: u32 = 1_024;
+
+/// How many scans there were and how many found nothing of late, and how much was learnt.
 #[derive(Clone, Copy, Debug, PartialEq, Eq)]
 pub struct Credit {
     scans: u64,
     learnt: u64,
+    fruitless: u32,
+    rest: u32,
 }
 
 impl Credit {
-    /// None of both.
+    /// Nothing yet.
     pub fn new() -> Credit {
         Credit {
             scans: 0,
             learnt: 0,
+            fruitless: 0,
+            rest: 0,
         }
     }
 
-    /// One more scan.
-    pub fn note_scan(&mut self) {
+    /// Whether a leap is looked for: not in a rest.
+    pub fn begin_scan(&mut self) -> bool {
+        if self.rest > 0 {
+            self.rest -= 1;
+            return false;
+        }
         self.scans = self.scans.saturating_add(1);
+        true
+    }
+
+    /// A scan has found a leap, or none.
+    pub fn end_scan(&mut self, found: bool) {
+        if found {
+            self.fruitless = 0;
+        } else if self.fruitless < FRUITLESS {
+            self.fruitless += 1;
+        } else {
+            self.rest = REST;
+        }
     }
 
     /// Whether an edge of a row with so many lists may be learnt. It counts then.

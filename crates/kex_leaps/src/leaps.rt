@@ -80,8 +80,10 @@ impl<'p> Leaps<'p> {
         ensures table { self.new.table ≡ self.old.table }
         ensures machine { self.new.machine ≡ self.old.machine }
     {
-        self.credit.note_scan();
-        scan(
+        if !self.credit.begin_scan() {
+            return Ok(None);
+        }
+        let found = scan(
             self.alloc,
             self.table,
             &mut self.ledger,
@@ -90,7 +92,9 @@ impl<'p> Leaps<'p> {
             state,
             node,
             piece,
-        )
+        )?;
+        self.credit.end_scan(found.is_some());
+        Ok(found)
     }
 
     /// Does what is to be done for the leap of a piece along which it has gone last, on a sheet.
