@@ -10,7 +10,8 @@ use Rattle.kex_paths.specs.Nexts.{IsFirstTree}
 use Rattle.kex_tabfile.specs.Readers.{ReadSoFar, ReadsBytes}
 use Rattle.kex_tabfile.specs.TableFiles.{goes_of}
 use Rattle.kex_tabfile.specs.Walks.{AreNumbersOf, IsStageText, told_first}
-use Rattle.kex_tabfile.specs.Checking.{AreTargets, BeginsWith}
+use Rattle.kex_tabfile.specs.Checking.{AreTargets, BeginsWith, BreaksStage}
+use Rattle.kex_tabfile.specs.declared.refusal.TableRefusal.TheVariants.{Memory}
 use Rattle.kex_tabfile.proofs.ResultParts.{if_err}
 use Rattle.kex_tabfile.proofs.TableRows.{target, is_table_of, is_well_formed}
 use Rattle.kex_tabfile.proofs.StageSteps.{stage_breaks, states_break, reads_states, ReadsStates, start_known, stands_first}
@@ -25,6 +26,9 @@ returns-in_err-states-clause-bad c =
     let e = c.in_err-states.field-0.0 in
     let of : AreNumbersOf g numbers classes = record { numbered = c.in_ok-numbers.ensures; classed = c.partition-partition.ensures } in
     if_err c.from_residual-in_err-states.result e _ c.from_residual-in_err-states.ensures.1 (stage_breaks g numbers classes of c.args.reader.now e (c.in_err-states.ensures.bad numbers classes refl))
+
+pub returns-in_err-meet-clause-bad : goal.returns-in_err-meet-clause-bad
+returns-in_err-meet-clause-bad c = if_err c.from_residual-in_err-meet.result Memory (λ e. BreaksStage c.args.machine.now c.args.reader.now e) c.from_residual-in_err-meet.ensures.1 tt
 
 module _ (c : In_ok-meet) where
   first_at : IsFirstTree c.args.machine.now (Some c.in_ok-tree.ensures.first.0)
