@@ -10,8 +10,6 @@
 #![tactic(auto)]
 
 #[cfg(test)]
-mod chunk_stages;
-#[cfg(test)]
 mod chunks;
 #[cfg(test)]
 mod compile;
