@@ -1,7 +1,7 @@
 // The hot loop: functions over slices and numbers by value, so that all that changes is in locals.
 
-ghost use Rattle.std.specs.Prelude.{◌≡◌, ℕ, ◌+◌, ◌*◌, ◌-◌, ◌<◌, ◌≤◌, List, All, IfSome, IsNone};
-ghost use Rattle.std.specs.Prelude.{length, take, drop};
+ghost use Rattle.std.specs.Prelude.{◌≡◌, ℕ, ◌+◌, ◌*◌, ◌-◌, ◌<◌, ◌≤◌, ◌++◌, List, All, IfSome};
+ghost use Rattle.std.specs.Prelude.{IsNone, length, take, drop};
 ghost use Rattle.kex_moves.specs.declared.edge.EdgeKind.{EdgeKind};
 ghost use Rattle.kex_moves.specs.Runs.{HasEdgeRow, LeadsBack, HasKind, AreEdgesWithin, StopsAt};
 ghost use Rattle.kex_moves.specs.Runs.{run_from};
@@ -17,7 +17,49 @@ pub struct SheetPoint {
     pub used: usize,
 }
 
+/// How many bytes of a run are copied at once. For so many it is asked once whether they are there.
+const EIGHT: usize = 8;
+
+// Copies eight bytes behind the first so many of a piece over those behind the first so many of a
+// buffer. Of what is copied as many bytes count as the caller says.
+#[inline(always)]
+fn copy_eight(piece: &[u8], to: &mut [u8], at: usize)
+    requires from { at + 8 ≤ length piece.now }
+    requires to { at + 8 ≤ length to.old }
+    ensures copied { (n : ℕ) → n ≤ 8
+        → take (at + n) to.new ≡ take at to.old ++ take n (drop at piece.now) }
+    ensures len { length to.new ≡ length to.old }
+{
+    // By a copy between, so that nothing asks whether the two overlap.
+    let mut copy = [0; EIGHT];
+    copy.copy_from_slice(&piece[at..at + EIGHT]);
+    to[at..at + EIGHT].copy_from_slice(&copy);
+}
+
+// How many of the eight bytes behind the first so many the edges of a row keep, up to another one.
+// The loop has a fixed end, so that it is unrolled.
+#[inline(always)]
+fn kept_of_eight(classes: &[u8; 256], edges: &[Edge], piece: &[u8], at: usize) -> usize
+    requires row { All (λ c. c < length edges.now) classes.now }
+    requires from { at + 8 ≤ length piece.now }
+    requires kept { All (HasKind classes.now edges.now EdgeKind.Keep) (take at piece.now) }
+    ensures within { result ≤ 8 }
+    ensures kept { All (HasKind classes.now edges.now EdgeKind.Keep)
+        (take (at + result) piece.now) }
+{
+    let mut count = 0;
+    while count < EIGHT {
+        let byte = piece[at + count];
+        if !edges[classes[byte as usize] as usize].kind.is_keep() {
+            break;
+        }
+        count += 1;
+    }
+    count
+}
+
 // Copies bytes as long as the edges of a row keep them, as that of the first does. Tells how many.
+// It may stop before that, where fewer than eight are left.
 #[inline(always)]
 fn keep(classes: &[u8; 256], edges: &[Edge], piece: &[u8], to: &mut [u8]) -> usize
     requires row { All (λ c. c < length edges.now) classes.now }
@@ -31,19 +73,40 @@ fn keep(classes: &[u8; 256], edges: &[Edge], piece: &[u8], to: &mut [u8]) -> usi
 {
     to[0] = piece[0];
     let mut count = 1;
-    while count < piece.len() {
-        let byte = piece[count];
-        if !edges[classes[byte as usize] as usize].kind.is_keep() {
+    while count + EIGHT <= piece.len() {
+        copy_eight(piece, to, count);
+        let more = kept_of_eight(classes, edges, piece, count);
+        count += more;
+        if more < EIGHT {
             break;
         }
-        to[count] = byte;
+    }
+    count
+}
+
+// How many of the eight bytes behind the first so many the edges of a row drop, up to another one.
+#[inline(always)]
+fn dropped_of_eight(classes: &[u8; 256], edges: &[Edge], piece: &[u8], at: usize) -> usize
+    requires row { All (λ c. c < length edges.now) classes.now }
+    requires from { at + 8 ≤ length piece.now }
+    requires dropped { All (HasKind classes.now edges.now EdgeKind.Drop) (take at piece.now) }
+    ensures within { result ≤ 8 }
+    ensures dropped { All (HasKind classes.now edges.now EdgeKind.Drop)
+        (take (at + result) piece.now) }
+{
+    let mut count = 0;
+    while count < EIGHT {
+        let byte = piece[at + count];
+        if !edges[classes[byte as usize] as usize].kind.is_drop() {
+            break;
+        }
         count += 1;
     }
     count
 }
 
 // Passes over bytes as long as the edges of a row drop them, as that of the first does. Tells how
-// many.
+// many. It may stop before that, where fewer than eight are left.
 #[inline(always)]
 fn skip(classes: &[u8; 256], edges: &[Edge], piece: &[u8]) -> usize
     requires row { All (λ c. c < length edges.now) classes.now }
@@ -54,12 +117,12 @@ fn skip(classes: &[u8; 256], edges: &[Edge], piece: &[u8]) -> usize
     ensures dropped { All (HasKind classes.now edges.now EdgeKind.Drop) (take result piece.now) }
 {
     let mut count = 1;
-    while count < piece.len() {
-        let byte = piece[count];
-        if !edges[classes[byte as usize] as usize].kind.is_drop() {
+    while count + EIGHT <= piece.len() {
+        let more = dropped_of_eight(classes, edges, piece, count);
+        count += more;
+        if more < EIGHT {
             break;
         }
-        count += 1;
     }
     count
 }

@@ -1,8 +1,11 @@
-use Rattle.std.proofs.Common.{◌∙◌, ◌++◌, ◌∷◌, [], ◌<◌, length, get_or, sym, ap, arith, length-set}
+use Rattle.std.proofs.Common.{◌≡◌, ℕ, List, ◌+◌, ◌∙◌, ◌++◌, take, drop, get_or, sym, ap, arith}
+use Rattle.std.proofs.Math.Seq.{take-add}
 use Rattle.std.proofs.lemmas.List.{take_more, take_more_set}
-use Rattle.kex_moves.specs.declared.edge.EdgeKind.TheVariants.{Keep}
-use Rattle.kex_moves.proofs.Runs.{one_kind}
 use Rattle.kex_moves.proofs.run.keep.Goals as goal
+
+-- what was copied, and as many bytes more
+copied_on : (xs ys ws : List ℕ) (n m : ℕ) → take (n + m) ys ≡ take n xs ++ take m (drop n ws) → take n xs ≡ take n ws → take (n + m) ys ≡ take (n + m) ws
+copied_on xs ys ws n m e f = e ∙ ap (λ l. l ++ take m (drop n ws)) f ∙ sym (take-add n m ws)
 
 pub loop-count-init : goal.loop-count-init
 loop-count-init c =
@@ -17,13 +20,15 @@ loop-count-init c =
 
 pub loop-count-preserved : goal.loop-count-preserved
 loop-count-preserved c =
-    let piece = c.args.piece.now in
     let count = c.loop-count.count in
-    let b = get_or piece count 0 in
-    let byte : b < length c.args.classes.now = omega (arith, c.told-classes, c.type_inv.piece count) in
+    let more = c.kept_of_eight-more.result in
+    let few = c.kept_of_eight-more.ensures.within in
     record {
       some = omega (arith, c.loop-count.invariant.some);
-      within = omega arith;
-      kept = one_kind c.args.classes.now piece c.args.edges.now Keep count c.loop-count-test.true byte c.requires.row (c.is_keep.ensures.0 c.if-not-is_keep.false) c.loop-count.invariant.kept;
-      copied = take_more_set c.loop-count.to count b (omega (arith, length-set c.args.to.now 0 (get_or piece 0 0))) ∙ ap (λ l. l ++ b ∷ []) c.loop-count.invariant.copied ∙ sym (take_more piece count 0 c.loop-count-test.true);
+      within = omega (arith, few, c.loop-count-test.true);
+      kept = c.kept_of_eight-more.ensures.kept;
+      copied = copied_on c.loop-count.to c.copy_eight.new.to c.args.piece.now count more (c.copy_eight.ensures.copied more few) c.loop-count.invariant.copied;
     }
+
+pub returns-then-more-lt-EIGHT-clause-copied : goal.returns-then-more-lt-EIGHT-clause-copied
+returns-then-more-lt-EIGHT-clause-copied c = copied_on c.loop-count.to c.copy_eight.new.to c.args.piece.now c.loop-count.count c.kept_of_eight-more.result (c.copy_eight.ensures.copied c.kept_of_eight-more.result c.kept_of_eight-more.ensures.within) c.loop-count.invariant.copied
