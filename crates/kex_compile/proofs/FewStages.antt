@@ -1,9 +1,11 @@
 -- A program that a text spells has no more stages than may be named: one past those breaks a limit.
-use Rattle.std.proofs.Common.{◌≡◌, ◌+◌, ◌<◌, ◌≤◌, ℕ, zero, suc, Bool, true, false, arith, List, [], ◌∷◌, ◌⊎◌, inl, inr, ⊎_elim, refl, sym, ap, subst, length}
+use Rattle.std.proofs.Common.{◌≡◌, ◌+◌, ◌^◌, ◌<◌, ◌≤◌, ℕ, zero, suc, Bool, true, false, arith, List, [], ◌∷◌, ◌⊎◌, inl, inr, ⊎_elim, refl, sym, ap, subst, length}
+use Rattle.std.proofs.lemmas.List.{length-map}
 use Rattle.std.specs.Prelude.{None, bytes_eq, codes, get_or, if◌then◌else◌}
 use Rattle.kex_code.specs.Codes.{IsAmong}
 use Rattle.kex_model.specs.Programs.{Grammar}
 use Rattle.kex_model.specs.declared.program.Definition.{Definition as Root}
+use Rattle.kex_model.specs.Trees.{root_of}
 use Rattle.kex_model.specs.declared.program.Start.{Start}
 use Rattle.kex_model.proofs.Shapes.{among_left}
 use Rattle.kex_regexp.specs.declared.breaks.Break.{Break}
@@ -12,6 +14,10 @@ use Rattle.kex_reader.specs.Syntax.{Header, NoStart, Stages, header}
 use Rattle.kex_reader.specs.Checks.{Staged, SomeBreaks, most_stages, stage_checks, header_checks, definition_checks}
 use Rattle.kex_reader.specs.Shown.{Made, ShowsStages}
 use Rattle.kex_reader.specs.Spelling.{ShowsHeader, Spells, main_stage, offset}
+use Rattle.kex_machine.specs.Nodes.{Graph}
+use Rattle.kex_compile.specs.Compiled.{HasMachines}
+use Rattle.kex_compile.specs.Stages.{roots_of}
+use Rattle.kex_compile.proofs.FirstStages.{as-many}
 
 shown : (ns : List (List ℕ)) (made : Made) (at : ℕ → ℕ) (ss : List Start) (i : ℕ) → ShowsStages ns made at ss i → length ss ≡ length ns
 unfolding ShowsStages
@@ -56,3 +62,10 @@ few_stages text P h =
     let at = offset text h.tokens in
     few h.tree.header (record { nodes = P.nodes; names = P.names; registers = h.registers; broken = None }) at P h.shown.stages
     (λ b s. h.within b (s.0, among_left (header_checks h.tree.header at) (definition_checks h.tree.definitions at (length (header h.tree.header))) s.0 s.1, s.2))
+
+-- so it has no more machines
+pub few_machines : (text : List ℕ) (ms : List Graph) → HasMachines text ms → length ms < 2 ^ 32
+few_machines text ms h =
+    let P = h.program in
+    let few : length P.stages ≤ most_stages = few_stages text P h.spells in
+    omega (arith, few, as-many P (roots_of P) ms h.stages, length-map P.stages (λ (s : Start). root_of P s.name))

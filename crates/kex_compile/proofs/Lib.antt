@@ -1,4 +1,5 @@
 pub mod FirstStages
+mod ItemNumbers
 pub mod NodePairs
 pub mod WordOffsets
 pub mod BodyPairs
@@ -18,3 +19,4 @@ pub mod ProgramAnswers
 pub mod FewStages
 pub mod StageTables
 mod StageRefusals
+mod StageRoots

@@ -1,24 +1,28 @@
 -- From the tables of machines to what they say of stages.
-use Rattle.std.proofs.Common.{◌≡◌, ◌+◌, ◌≤◌, ℕ, suc, true, false, arith, List, [], ◌∷◌, ◌++◌, inl, inr, length, refl, sym, ap, ◌∙◌, subst}
+use Rattle.std.proofs.Common.{◌≡◌, ◌+◌, ◌≤◌, ℕ, zero, suc, true, false, arith, List, [], ◌∷◌, ◌++◌, inl, inr, length, refl, sym, ap, ◌∙◌, subst}
+use Rattle.std.proofs.lemmas.List.{length-map}
 use Rattle.std.specs.Prelude.{Option, Some, None, Result, Ok, Err, OnOk, is_some}
-use Rattle.kex_code.specs.Codes.{Different, IsAmong}
+use Rattle.kex_code.specs.Codes.{Different, HasNumber, IsAmong}
 use Rattle.kex_model.specs.Moves.{Move}
 use Rattle.kex_model.specs.States.{AllDifferent, HasMoreStates, HasStates}
+use Rattle.kex_model.proofs.Tables.{some_same}
 use Rattle.kex_model.proofs.DistinctItems.{different_fits}
 use Rattle.kex_model.specs.Programs.{Grammar}
 use Rattle.kex_machine.specs.Nodes.{Graph, node_moves}
 use Rattle.kex_sst.specs.Tables.{Transducer}
 use Rattle.kex_lowering.proofs.States.{same_states}
-use Rattle.kex_cover.specs.Optimal.{RefusesOptimal}
+use Rattle.kex_stage.specs.declared.plan.Telling.{Telling}
+use Rattle.kex_stage.specs.declared.plan.Telling.TheVariants as telling
+use Rattle.kex_cover.specs.Optimal.{RefusesOptimal, wholes}
 use Rattle.kex_cover.specs.declared.refusal.CoverRefusal.{CoverRefusal}
 use Rattle.kex_cover.specs.declared.refusal.CoverRefusal.TheVariants as cover
 use Rattle.kex_alike.specs.StageTests.{HasTooManyPairs}
 use Rattle.kex_alike.proofs.StageMachines.{machines_ask_as_stage}
 use Rattle.kex_compile.specs.declared.limits.Limits.{Limits}
-use Rattle.kex_compile.specs.Stages.{AllRun, AreStages, AreTabled, HasMoreNodePairs, HasMoreNodes, HasStatesIf, HasTable, HasTooManyStates, HaveTheirPlans, HavePlansOrFirst, HaveStatesInAll, IsFirst, IsStage, IsUnplanned, IsUntabled, IsUntabledAs, IsUntabledBy, KeepsToOneStage, NodeStates, NoneIs, Plans, most_pairs, roots_of}
+use Rattle.kex_compile.specs.Stages.{AllRun, AreStages, AreTabled, HasMoreNodePairs, HasMoreNodes, HasStatesIf, HasTable, HasTableIf, HasTooManyStates, HaveTheirPlans, HavePlansOrFirst, HaveStatesInAll, IsFirst, IsStage, IsTableTelling, IsUnplanned, IsUntabled, IsUntabledAs, IsUntabledBy, KeepsToOneStage, NodeStates, NoneIs, Plans, asked_telling, most_pairs, roots_of, states_if}
 use Rattle.kex_compile.specs.declared.refusal.PlanRefusal.{PlanRefusal}
 use Rattle.kex_compile.specs.declared.refusal.PlanRefusal.TheVariants.{TooManyPlaces, NoText, OneStage, TooManyStates, TooManyPairs, Memory}
-use Rattle.kex_compile.proofs.FirstStages.{first-now, first-stays, first-then}
+use Rattle.kex_compile.proofs.FirstStages.{among-at, first-again, first-now, first-stays, first-then}
 
 different_of : {A : Type 0} (xs : List A) → AllDifferent xs → Different xs
 different_of [] d = tt
@@ -76,6 +80,36 @@ module _ (limits : Limits) where
   planned_more ms m None old new own o none stages tables states has count few h = plan_more ms m old new own o stages tables states has count few h
   planned_more ms m (Some n) old new own o none stages tables states has count few h = cc
 
+  -- the table of a machine among others
+  tabled_at : (ms : List Graph) (os : List (Option Transducer)) (i : ℕ) (m : Graph) → HasNumber ms m i → AreTabled limits ms os → (o : Option Transducer) × HasNumber os o i × HasTable limits m o
+  tabled_at [] os i m k h = cc
+  tabled_at (x ∷ ms) [] i m k h = absurd h
+  tabled_at (x ∷ ms) (y ∷ os) zero m k h = (y, refl, subst (λ z. HasTable limits z y) (some_same x m k) h.0)
+  tabled_at (x ∷ ms) (y ∷ os) (suc i) m k h = tabled_at ms os i m k h.1
+
+  -- a table has as many states as its machine
+  table_states : (k : Telling) (m : Graph) (t : Transducer) → IsTableTelling k m t → HasStates (node_moves m.nodes) m.start (length t.states)
+  table_states telling.Agreed m t h = record { states = h.1.shapes; count = h.1.rows.count; different = h.1.different; each = h.1.each; all = h.1.all }
+  table_states telling.Best m t h = record { states = wholes h.1.states; count = h.1.rows.count ∙ sym (length-map h.1.states (λ s. s.whole)); different = h.1.different; each = h.1.each; all = h.1.all }
+
+  counted_states : (m : Graph) (o : Option Transducer) → (limits.tables ≡ true → HasMoreNodes limits m → ⊥) → HasTable limits m o → HasStatesIf limits m (states_if o)
+  counted_states m o few h = λ on. (by o (subst (λ b. HasTableIf b (asked_telling limits) m o) on h), few on)
+    where
+      by : (o : Option Transducer) → HasTableIf true (asked_telling limits) m o → HasStates (node_moves m.nodes) m.start (states_if o)
+      by None h = absurd h
+      by (Some t) h = table_states (asked_telling limits) m t h
+
+  -- one machine more, which is there already and has its plan
+  pub planned_again : (ms : List Graph) (i : ℕ) (m : Graph) (first : Option ℕ) (old new : Plans) → is_some first ≡ false → HasNumber ms m i → ((o : Option Transducer) → HasNumber old.stages m i → HasNumber old.tables o i → new ≡ record { stages = old.stages ++ m ∷ []; tables = old.tables ++ o ∷ []; telling = old.telling; places = old.places; states = old.states + states_if o }) → HavePlansOrFirst limits ms first old → HavePlansOrFirst limits (ms ++ m ∷ []) first new
+  planned_again ms i m None old new none at pushed h =
+      let t = tabled_at ms old.tables i m at h.tables in
+      let is = pushed t.0 (subst (λ z. HasNumber z m i) (sym h.machines) at) t.1 in
+      let among = among-at ms i m at in
+      plan_more ms m old new (states_if t.0) t.0 (ap (λ (z : Plans). z.stages) is) (ap (λ (z : Plans). z.tables) is) (ap (λ (z : Plans). z.states) is) t.2
+      (counted_states m t.0 (λ on. none_among old.states ms (h.states on) m among) t.2)
+      (h.pairs m among) h
+  planned_again ms i m (Some n) old new none at pushed h = cc
+
   -- which is the first that has too many pairs
   pub first_more : (ms : List Graph) (m : Graph) (first : Option ℕ) (n : ℕ) (plans : Plans) → n ≡ suc (length ms) → is_some first ≡ false → limits.tables ≡ true → (HasMoreNodes limits m → ⊥) → HasMoreNodePairs limits m → HavePlansOrFirst limits ms first plans → HavePlansOrFirst limits (ms ++ m ∷ []) (Some n) plans
   first_more ms m None n plans number none on few more h = (first-then (HasMoreNodes limits) ms None m few (none_so_far ms None plans on h), first-now (HasMoreNodePairs limits) ms None m n number more h.pairs)
@@ -85,6 +119,11 @@ module _ (limits : Limits) where
   pub known_more : (ms : List Graph) (m : Graph) (first : Option ℕ) (plans : Plans) → is_some first ≡ true → (HasMoreNodes limits m → ⊥) → HavePlansOrFirst limits ms first plans → HavePlansOrFirst limits (ms ++ m ∷ []) first plans
   known_more ms m None plans some few h = cc
   known_more ms m (Some n) plans some few h = (first-then (HasMoreNodes limits) ms None m few h.0, first-stays (HasMoreNodePairs limits) ms n m h.1)
+
+  -- or is there already
+  pub known_again : (ms : List Graph) (i : ℕ) (m : Graph) (first : Option ℕ) (plans : Plans) → is_some first ≡ true → HasNumber ms m i → HavePlansOrFirst limits ms first plans → HavePlansOrFirst limits (ms ++ m ∷ []) first plans
+  known_again ms i m None plans some at h = cc
+  known_again ms i m (Some n) plans some at h = (first-again (HasMoreNodes limits) ms None m (among-at ms i m at) h.0, first-stays (HasMoreNodePairs limits) ms n m h.1)
 
   pub tables_where_first : (ms : List Graph) (first : Option ℕ) (plans : Plans) → is_some first ≡ true → (limits.optimal ≡ true → limits.tables ≡ true) → HavePlansOrFirst limits ms first plans → limits.tables ≡ true
   tables_where_first ms None plans some on h = cc
@@ -112,90 +151,89 @@ module _ (limits : Limits) where
 
 -- a stage and its machine have as many states
 module _ (limits : Limits) (P : Grammar) where
-  more_places : (r i : ℕ) (m : Graph) → IsStage P r i m → HasMoreNodes limits m → HasTooManyStates limits P r
-  more_places r i m s h = (same_states P r m s.kept limits.states).more.1 h
+  more_places : (r : ℕ) (m : Graph) → IsStage P r m → HasMoreNodes limits m → HasTooManyStates limits P r
+  more_places r m s h = (same_states P r m s.kept limits.states).more.1 h
 
-  more_nodes : (r i : ℕ) (m : Graph) → IsStage P r i m → HasTooManyStates limits P r → HasMoreNodes limits m
-  more_nodes r i m s h = (same_states P r m s.kept limits.states).more.0 h
+  more_nodes : (r : ℕ) (m : Graph) → IsStage P r m → HasTooManyStates limits P r → HasMoreNodes limits m
+  more_nodes r m s h = (same_states P r m s.kept limits.states).more.0 h
 
   -- none of the machines has too many states
-  pub none_more : (total i : ℕ) (rs : List ℕ) (ms : List Graph) → AreStages P i rs ms → NodeStates limits ms total → (r : ℕ) → IsAmong rs r → HasTooManyStates limits P r → ⊥
-  none_more total i [] [] s h r a q = a
-  none_more total i (x ∷ rs) (m ∷ ms) s (own, rest, has, few, more, e) r (inl a) q = few (more_nodes x i m s.0 (subst (λ z. HasTooManyStates limits P z) (sym a) q))
-  none_more total i (x ∷ rs) (m ∷ ms) s (own, rest, has, few, more, e) r (inr a) q = none_more rest (suc i) rs ms s.1 more r a q
-  none_more total i [] (m ∷ ms) s h r a q = s
-  none_more total i (x ∷ rs) [] s h r a q = s
+  pub none_more : (total : ℕ) (rs : List ℕ) (ms : List Graph) → AreStages P rs ms → NodeStates limits ms total → (r : ℕ) → IsAmong rs r → HasTooManyStates limits P r → ⊥
+  none_more total [] [] s h r a q = a
+  none_more total (x ∷ rs) (m ∷ ms) s (own, rest, has, few, more, e) r (inl a) q = few (more_nodes x m s.0 (subst (λ z. HasTooManyStates limits P z) (sym a) q))
+  none_more total (x ∷ rs) (m ∷ ms) s (own, rest, has, few, more, e) r (inr a) q = none_more rest rs ms s.1 more r a q
+  none_more total [] (m ∷ ms) s h r a q = s
+  none_more total (x ∷ rs) [] s h r a q = s
 
   -- they have so many in all
-  pub states_of_stages : (total i : ℕ) (rs : List ℕ) (ms : List Graph) → AreStages P i rs ms → NodeStates limits ms total → HaveStatesInAll P rs total
-  states_of_stages total i [] [] s h = h
-  states_of_stages total i (x ∷ rs) (m ∷ ms) s (own, rest, has, few, more, e) = (own, rest, (same_states P x m s.0.kept own).count.1 has, states_of_stages rest (suc i) rs ms s.1 more, e)
-  states_of_stages total i [] (m ∷ ms) s h = absurd s
-  states_of_stages total i (x ∷ rs) [] s h = absurd s
+  pub states_of_stages : (total : ℕ) (rs : List ℕ) (ms : List Graph) → AreStages P rs ms → NodeStates limits ms total → HaveStatesInAll P rs total
+  states_of_stages total [] [] s h = h
+  states_of_stages total (x ∷ rs) (m ∷ ms) s (own, rest, has, few, more, e) = (own, rest, (same_states P x m s.0.kept own).count.1 has, states_of_stages rest rs ms s.1 more, e)
+  states_of_stages total [] (m ∷ ms) s h = absurd s
+  states_of_stages total (x ∷ rs) [] s h = absurd s
 
   -- the stages before a machine, and its own
-  record SplitAt (i : ℕ) (rs : List ℕ) (ms : List Graph) (at : Graph) : Type 0 where
+  record SplitAt (rs : List ℕ) (ms : List Graph) (at : Graph) : Type 0 where
     before : List ℕ
     root : ℕ
     behind : List ℕ
     split : rs ≡ before ++ root ∷ behind
     long : length before ≡ length ms
-    stages : AreStages P i before ms
-    own : ℕ
-    is : IsStage P root own at
+    stages : AreStages P before ms
+    is : IsStage P root at
 
-  split_at : (i : ℕ) (rs : List ℕ) (ms : List Graph) (at : Graph) (more : List Graph) → AreStages P i rs (ms ++ at ∷ more) → SplitAt i rs ms at
-  split_at i [] [] at more s = absurd s
-  split_at i [] (m ∷ ms) at more s = absurd s
-  split_at i (r ∷ rs) [] at more s = record { before = []; root = r; behind = rs; split = refl; long = refl; stages = tt; own = i; is = s.0 }
-  split_at i (r ∷ rs) (m ∷ ms) at more s =
-      let x = split_at (suc i) rs ms at more s.1 in
-      record { before = r ∷ x.before; root = x.root; behind = x.behind; split = ap (λ z. r ∷ z) x.split; long = ap suc x.long; stages = (s.0, x.stages); own = x.own; is = x.is }
+  split_at : (rs : List ℕ) (ms : List Graph) (at : Graph) (more : List Graph) → AreStages P rs (ms ++ at ∷ more) → SplitAt rs ms at
+  split_at [] [] at more s = absurd s
+  split_at [] (m ∷ ms) at more s = absurd s
+  split_at (r ∷ rs) [] at more s = record { before = []; root = r; behind = rs; split = refl; long = refl; stages = tt; is = s.0 }
+  split_at (r ∷ rs) (m ∷ ms) at more s =
+      let x = split_at rs ms at more s.1 in
+      record { before = r ∷ x.before; root = x.root; behind = x.behind; split = ap (λ z. r ∷ z) x.split; long = ap suc x.long; stages = (s.0, x.stages); is = x.is }
 
   -- the machine of a stage
-  machine_among : (i : ℕ) (rs : List ℕ) (ms : List Graph) → AreStages P i rs ms → (r : ℕ) → IsAmong rs r → (m : Graph) × IsAmong ms m × (k : ℕ) × IsStage P r k m
-  machine_among i [] [] s r a = absurd a
-  machine_among i [] (m ∷ ms) s r a = absurd s
-  machine_among i (x ∷ rs) [] s r a = absurd s
-  machine_among i (x ∷ rs) (m ∷ ms) s r (inl a) = (m, inl refl, i, subst (λ z. IsStage P z i m) a s.0)
-  machine_among i (x ∷ rs) (m ∷ ms) s r (inr a) = let y = machine_among (suc i) rs ms s.1 r a in (y.0, inr y.1, y.2, y.3)
+  machine_among : (rs : List ℕ) (ms : List Graph) → AreStages P rs ms → (r : ℕ) → IsAmong rs r → (m : Graph) × IsAmong ms m × IsStage P r m
+  machine_among [] [] s r a = absurd a
+  machine_among [] (m ∷ ms) s r a = absurd s
+  machine_among (x ∷ rs) [] s r a = absurd s
+  machine_among (x ∷ rs) (m ∷ ms) s r (inl a) = (m, inl refl, subst (λ z. IsStage P z m) a s.0)
+  machine_among (x ∷ rs) (m ∷ ms) s r (inr a) = let y = machine_among rs ms s.1 r a in (y.0, inr y.1, y.2)
 
   -- the first machine that is so is that of the first stage that is so
-  first_of_stages : (A : Graph → Type 0) (B : ℕ → Type 0) → ((r i : ℕ) (m : Graph) → IsStage P r i m → A m → B r) → ((r i : ℕ) (m : Graph) → IsStage P r i m → B r → A m) → (n i : ℕ) (rs : List ℕ) (ms : List Graph) → AreStages P i rs ms → IsFirst A ms n → IsFirst B rs n
-  first_of_stages A B on back n i rs ms s h =
-      let x = split_at i rs h.before h.at h.behind (subst (λ z. AreStages P i rs z) h.split s) in
+  first_of_stages : (A : Graph → Type 0) (B : ℕ → Type 0) → ((r : ℕ) (m : Graph) → IsStage P r m → A m → B r) → ((r : ℕ) (m : Graph) → IsStage P r m → B r → A m) → (n : ℕ) (rs : List ℕ) (ms : List Graph) → AreStages P rs ms → IsFirst A ms n → IsFirst B rs n
+  first_of_stages A B on back n rs ms s h =
+      let x = split_at rs h.before h.at h.behind (subst (λ z. AreStages P rs z) h.split s) in
       record {
         before = x.before;
         at = x.root;
         behind = x.behind;
         split = x.split;
         number_is = h.number_is ∙ ap suc (sym x.long);
-        is_so = on x.root x.own h.at x.is h.is_so;
-        none_before = λ r a q. let y = machine_among i x.before h.before x.stages r a in h.none_before y.0 y.1 (back r y.2 y.0 y.3 q);
+        is_so = on x.root h.at x.is h.is_so;
+        none_before = λ r a q. let y = machine_among x.before h.before x.stages r a in h.none_before y.0 y.1 (back r y.0 y.2 q);
       }
 
   abbrev Many : ℕ → Type 0
   Many r = HasTooManyPairs P r most_pairs
 
-  pairs_of_stage : (r i : ℕ) (m : Graph) → IsStage P r i m → HasMoreNodePairs limits m → Many r
-  pairs_of_stage r i m s h = (machines_ask_as_stage P r m most_pairs s.kept).more.1 h.1
+  pairs_of_stage : (r : ℕ) (m : Graph) → IsStage P r m → HasMoreNodePairs limits m → Many r
+  pairs_of_stage r m s h = (machines_ask_as_stage P r m most_pairs s.kept).more.1 h.1
 
-  pairs_of_machine : limits.optimal ≡ true → (r i : ℕ) (m : Graph) → IsStage P r i m → Many r → HasMoreNodePairs limits m
-  pairs_of_machine on r i m s h = (on, (machines_ask_as_stage P r m most_pairs s.kept).more.0 h)
+  pairs_of_machine : limits.optimal ≡ true → (r : ℕ) (m : Graph) → IsStage P r m → Many r → HasMoreNodePairs limits m
+  pairs_of_machine on r m s h = (on, (machines_ask_as_stage P r m most_pairs s.kept).more.0 h)
 
   -- no stage is so where no machine is
-  none_of_stages : (A : Graph → Type 0) (B : ℕ → Type 0) → ((r i : ℕ) (m : Graph) → IsStage P r i m → B r → A m) → (i : ℕ) (rs : List ℕ) (ms : List Graph) → AreStages P i rs ms → NoneIs A ms → NoneIs B rs
-  none_of_stages A B back i rs ms s none r a q = let y = machine_among i rs ms s r a in none y.0 y.1 (back r y.2 y.0 y.3 q)
+  none_of_stages : (A : Graph → Type 0) (B : ℕ → Type 0) → ((r : ℕ) (m : Graph) → IsStage P r m → B r → A m) → (rs : List ℕ) (ms : List Graph) → AreStages P rs ms → NoneIs A ms → NoneIs B rs
+  none_of_stages A B back rs ms s none r a q = let y = machine_among rs ms s r a in none y.0 y.1 (back r y.0 y.2 q)
 
-  pub keeps_to_pairs : (i : ℕ) (rs : List ℕ) (ms : List Graph) → AreStages P i rs ms → NoneIs (HasMoreNodePairs limits) ms → limits.optimal ≡ true → NoneIs (λ r. Many r) rs
-  keeps_to_pairs i rs ms s none on = none_of_stages (HasMoreNodePairs limits) (λ r. Many r) (pairs_of_machine on) i rs ms s none
+  pub keeps_to_pairs : (rs : List ℕ) (ms : List Graph) → AreStages P rs ms → NoneIs (HasMoreNodePairs limits) ms → limits.optimal ≡ true → NoneIs (λ r. Many r) rs
+  keeps_to_pairs rs ms s none on = none_of_stages (HasMoreNodePairs limits) (λ r. Many r) (pairs_of_machine on) rs ms s none
 
   -- why stages have no plans
-  pub unplanned_by : (ms : List Graph) (e : PlanRefusal) → AllRun P → KeepsToOneStage limits P → AreStages P 1 (roots_of P) ms → IsUntabled limits ms e → IsUnplanned limits P e
-  unplanned_by ms (TooManyStates n) run one s (on, first) = (run, one, on, first_of_stages (HasMoreNodes limits) (HasTooManyStates limits P) more_places more_nodes n 1 (roots_of P) ms s first)
+  pub unplanned_by : (ms : List Graph) (e : PlanRefusal) → AllRun P → KeepsToOneStage limits P → AreStages P (roots_of P) ms → IsUntabled limits ms e → IsUnplanned limits P e
+  unplanned_by ms (TooManyStates n) run one s (on, first) = (run, one, on, first_of_stages (HasMoreNodes limits) (HasTooManyStates limits P) more_places more_nodes n (roots_of P) ms s first)
   unplanned_by ms (TooManyPairs n) run one s (few, first) =
       let on = first.is_so.0 in
-      (run, one, λ tables. none_of_stages (HasMoreNodes limits) (HasTooManyStates limits P) more_nodes 1 (roots_of P) ms s few, on, first_of_stages (HasMoreNodePairs limits) (λ r. Many r) pairs_of_stage (pairs_of_machine on) n 1 (roots_of P) ms s first)
+      (run, one, λ tables. none_of_stages (HasMoreNodes limits) (HasTooManyStates limits P) more_nodes (roots_of P) ms s few, on, first_of_stages (HasMoreNodePairs limits) (λ r. Many r) pairs_of_stage (pairs_of_machine on) n (roots_of P) ms s first)
   unplanned_by ms Memory run one s h = tt
   unplanned_by ms (TooManyPlaces n) run one s h = absurd h
   unplanned_by ms (NoText n) run one s h = absurd h

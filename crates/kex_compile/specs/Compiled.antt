@@ -47,7 +47,7 @@ pub record HasMachines (text : List ℕ) (ms : List Graph) : Type 0 where
   pub program : Grammar
   pub spells : Spells text program
   pub ruled : IsRuled program
-  pub stages : AreStages program 1 (roots_of program) ms
+  pub stages : AreStages program (roots_of program) ms
 
 -- the text spells a program that breaks this rule, and none before it
 abbrev pub BreaksRule : List ℕ → RuleRefusal → Type 0

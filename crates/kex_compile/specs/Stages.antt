@@ -1,7 +1,7 @@
 -- The stages of a program: what their plans are, and which is refused first.
 use Rattle.std.specs.Prelude.{◌≡◌, ◌+◌, ◌<◌, ◌≤◌, ◌∷◌, ◌++◌, [], ℕ, suc, Bool, true, false, List}
 use Rattle.std.specs.Prelude.{Option, Some, None, if◌then◌else◌, length, map}
-use Rattle.kex_code.specs.Codes.{IsAmong}
+use Rattle.kex_code.specs.Codes.{HasNumber, IsAmong}
 use Rattle.kex_model.specs.Programs.{Grammar}
 use Rattle.kex_model.specs.Trees.{root_of}
 use Rattle.kex_model.specs.Places.{moves, start_of}
@@ -68,19 +68,29 @@ abbrev pub KeepsToPairs : Limits → Grammar → Type 0
 KeepsToPairs limits P = limits.optimal ≡ true → (root : ℕ) → IsAmong (roots_of P) root
     → HasTooManyPairs P root most_pairs → ⊥
 
+-- what is first so in the list has this number, counted from 1
+pub record IsFirst {A : Type 0} (Q : A → Type 0) (xs : List A) (number : ℕ) : Type 0 where
+  pub before : List A
+  pub at : A
+  pub behind : List A
+  pub split : xs ≡ before ++ at ∷ behind
+  pub number_is : number ≡ suc (length before)
+  pub is_so : Q at
+  pub none_before : (x : A) → IsAmong before x → Q x → ⊥
+
 -- the stage can run, and the machine answers as it does, has its paths to the places that it keeps,
--- and bears its number
-pub record IsStage (P : Grammar) (root number : ℕ) (m : Graph) : Type 0 where
+-- and bears the number of the first stage that begins there
+pub record IsStage (P : Grammar) (root : ℕ) (m : Graph) : Type 0 where
   pub can_run : CanRun P root
   pub carries : Carries P root m
   pub kept : IsKeptOf P root m
-  pub numbered : m.stage ≡ number
+  pub numbered : IsFirst (λ r. r ≡ root) (roots_of P) m.stage
 
--- the machines are those of the stages, in their order, numbered from i on
-abbrev pub AreStages : Grammar → ℕ → List ℕ → List Graph → Type 0
-AreStages P i [] [] = Unit {0}
-AreStages P i (r ∷ rs) (m ∷ ms) = IsStage P r i m × AreStages P (suc i) rs ms
-AreStages P i rs ms = ⊥
+-- the machines are those of the stages, in their order
+abbrev pub AreStages : Grammar → List ℕ → List Graph → Type 0
+AreStages P [] [] = Unit {0}
+AreStages P (r ∷ rs) (m ∷ ms) = IsStage P r m × AreStages P rs ms
+AreStages P rs ms = ⊥
 
 -- the stages have so many places in all
 abbrev pub HaveInAll : Grammar → List ℕ → ℕ → Type 0
@@ -88,20 +98,27 @@ HaveInAll P [] total = total ≡ 0
 HaveInAll P (r ∷ rs) total = (own rest : ℕ) × HasPlaces P r own × HaveInAll P rs rest
     × (total ≡ own + rest)
 
--- and so many states
+-- so many places each
+abbrev pub HaveEach : Grammar → List ℕ → List ℕ → Type 0
+HaveEach P [] [] = Unit {0}
+HaveEach P (r ∷ rs) (n ∷ ns) = HasPlaces P r n × HaveEach P rs ns
+HaveEach P rs ns = ⊥
+
+-- and so many states in all
 abbrev pub HaveStatesInAll : Grammar → List ℕ → ℕ → Type 0
 HaveStatesInAll P [] total = total ≡ 0
 HaveStatesInAll P (r ∷ rs) total = (own rest : ℕ) × HasStates (moves P) (start_of P r) own
     × HaveStatesInAll P rs rest × (total ≡ own + rest)
 
--- machines, and a count of places
+-- machines, with counts of their stages' places, each and in all
 pub record Machines : Type 0 where
   pub machines : List Graph
+  pub counts : List ℕ
   pub places : ℕ
 
 -- the machines of the program's stages, and how many places these have in all
 pub record AreMachines (P : Grammar) (lowered : Machines) : Type 0 where
-  pub stages : AreStages P 1 (roots_of P) lowered.machines
+  pub stages : AreStages P (roots_of P) lowered.machines
   pub places : HaveInAll P (roots_of P) lowered.places
 
 -- plans, by their machines and tables, what they tell, and counts of places and states
@@ -111,6 +128,17 @@ pub record Plans : Type 0 where
   pub telling : Telling
   pub places : ℕ
   pub states : ℕ
+
+-- each item bears a number, counted from 1, and stands there too: at its own place or before it
+abbrev pub StandAtNumbers : {A : Type 0} → (A → ℕ) → List A → Type 0
+StandAtNumbers {A} number xs = (i : ℕ) (x : A) → HasNumber xs x i → (n : ℕ)
+    × (number x ≡ suc n) × (n ≤ i) × HasNumber xs x n
+
+abbrev pub stage_of : Graph → ℕ
+stage_of m = m.stage
+
+abbrev pub stage_in : Planned → ℕ
+stage_in p = p.machine.stage
 
 -- what stages are to tell
 abbrev pub asked_telling : Limits → Telling
@@ -140,21 +168,11 @@ AreTabled limits ms os = ⊥
 -- the plans of the program's stages, with their tables, which tell what they are to, and how many
 -- places and states these have in all
 pub record ArePlans (limits : Limits) (P : Grammar) (plans : Plans) : Type 0 where
-  pub stages : AreStages P 1 (roots_of P) plans.stages
+  pub stages : AreStages P (roots_of P) plans.stages
   pub places : HaveInAll P (roots_of P) plans.places
   pub tables : AreTabled limits plans.stages plans.tables
   pub told : plans.telling ≡ asked_telling limits
   pub states : limits.tables ≡ true → HaveStatesInAll P (roots_of P) plans.states
-
--- what is first so in the list has this number, counted from 1
-pub record IsFirst {A : Type 0} (Q : A → Type 0) (xs : List A) (number : ℕ) : Type 0 where
-  pub before : List A
-  pub at : A
-  pub behind : List A
-  pub split : xs ≡ before ++ at ∷ behind
-  pub number_is : number ≡ suc (length before)
-  pub is_so : Q at
-  pub none_before : (x : A) → IsAmong before x → Q x → ⊥
 
 abbrev pub NoneIs : {A : Type 0} → (A → Type 0) → List A → Type 0
 NoneIs {A} Q xs = (x : A) → IsAmong xs x → Q x → ⊥
@@ -206,6 +224,19 @@ least_of None None = None
 
 abbrev pub least : Firsts → Option PlanRefusal
 least f = least_of f.too_many_places f.no_text
+
+-- what is known of stages so far: the firsts that are refused, and where none is the machines, with
+-- their places
+pub record AreLowered (P : Grammar) (roots : List ℕ) (f : Firsts)
+    (lowered : Machines) : Type 0 where
+  pub firsts : AreFirsts P roots f
+  pub stages : least f ≡ None → AreStages P roots lowered.machines
+  pub counts : least f ≡ None → HaveEach P roots lowered.counts
+  pub places : least f ≡ None → HaveInAll P roots lowered.places
+
+-- where none is refused, each stage has its machine
+abbrev pub HasEachMachine : List ℕ → Firsts → Machines → Type 0
+HasEachMachine roots f lowered = least f ≡ None → length lowered.machines ≡ length roots
 
 -- ---- states of machines
 
@@ -269,5 +300,14 @@ HavePlansOrFirst limits ms None plans = HaveTheirPlans limits ms plans
 HavePlansOrFirst limits ms (Some n) plans = NoneIs (HasMoreNodes limits) ms
     × IsFirst (HasMoreNodePairs limits) ms n
 
+-- before this stage each has its plan, where none has too many pairs
+abbrev pub HasEachPlan : ℕ → Option ℕ → Plans → Type 0
+HasEachPlan stage first plans = first ≡ None → length plans.stages + 1 ≡ stage
+
 abbrev pub table_of : Planned → Option Transducer
 table_of p = p.table
+
+-- how many states a table has, if there is one
+abbrev pub states_if : Option Transducer → ℕ
+states_if None = 0
+states_if (Some t) = length t.states

@@ -1,8 +1,12 @@
 // What a text is compiled to.
 
-ghost use Rattle.std.specs.Prelude.{◌≡◌, ◌+◌, ◌^◌, ◌<◌, ◌++◌, ◌∷◌, [], IfOk, OnOk, length, map};
+ghost use Rattle.std.specs.Prelude.{◌≡◌, ℕ, suc, ◌+◌, ◌^◌, ◌<◌, ◌≤◌, ◌++◌, ◌∷◌, [], IfOk, OnOk};
+ghost use Rattle.std.specs.Prelude.{Option, length, map};
+ghost use Rattle.kex_code.specs.Codes.{HasNumber};
+ghost use Rattle.kex_machine.specs.Nodes.{Graph};
+ghost use Rattle.kex_sst.specs.Tables.{Transducer};
 ghost use Rattle.kex_stage.specs.Plans.{AllTell, machine_of, teller_of, tellers};
-ghost use Rattle.kex_compile.specs.Stages.{table_of};
+ghost use Rattle.kex_compile.specs.Stages.{states_if, table_of};
 
 use kex_code::memory::Memory;
 use kex_stage::plan::{Plan, Telling};
@@ -22,7 +26,7 @@ pub struct Compiled {
 impl Model for Compiled {
     ghost use Rattle.std.specs.Prelude.{◌<◌, ◌^◌, length, map};
     ghost use Rattle.kex_stage.specs.Plans.{AllTell, machine_of};
-    ghost use Rattle.kex_compile.specs.Stages.{Plans, table_of};
+    ghost use Rattle.kex_compile.specs.Stages.{Plans, StandAtNumbers, stage_in, table_of};
 
     ghost Value = { Plans };
 
@@ -35,19 +39,21 @@ impl Model for Compiled {
     } };
 
     ghost invariant = { λ c. (length c.stages.items < 2 ^ 32)
-        × AllTell c.telling c.stages.items };
+        × AllTell c.telling c.stages.items × StandAtNumbers stage_in c.stages.items };
 }
 
-/// The same plans, of which stages go by tables without constant registers.
-pub fn shorten_all(alloc: Global, plans: Vec<Plan>) -> Result<Vec<Plan>, Memory>
-    ensures { IfOk result (λ shorter. shorter.items ≡ plans.items) }
+// The same plan, of which stages go by a table without constant registers: that of the first stage
+// with this machine, if that one is among the shorter plans.
+fn shorten_as(alloc: Global, plan: Plan, shorter: &[Plan]) -> Result<Plan, Memory>
+    requires first { (n : ℕ) × (plan.machine.stage ≡ suc n)
+        × (n < length shorter.now → HasNumber shorter.now plan n) }
+    ensures { IfOk result (λ p. p ≡ plan) }
 {
-    let mut shorter = Vec::with_capacity(alloc, plans.len())?;
-    'plans: for plan in plans {
-        let plan = plan.shorten(alloc)?;
-        shorter.push(plan)?;
+    let first = plan.machine().machine().stage() as usize - 1;
+    if first < shorter.len() {
+        return shorter[first].again();
     }
-    Ok(shorter)
+    plan.shorten(alloc)
 }
 
 impl Compiled {
@@ -68,11 +74,12 @@ impl Compiled {
         }
     }
 
-    // One stage more, with so many states.
+    /// One stage more, with so many states, whose machine bears its number.
     pub(crate) fn push(&mut self, plan: Plan, states: u32) -> Result<(), Memory>
         requires states { self.old.states + states < 2 ^ 64 }
         requires stages { length self.old.stages + 1 < 2 ^ 32 }
         requires told { plan.telling ≡ self.old.telling }
+        requires number { plan.machine.stage ≡ length self.old.stages + 1 }
         ensures pushed { OnOk result (self.new
             ≡ record {
               stages = self.old.stages ++ plan.machine ∷ [];
@@ -84,6 +91,36 @@ impl Compiled {
             }) }
         ensures few { OnOk result (self.new.states < self.old.states + 2 ^ 32) }
     {
+        self.stages.push(plan)?;
+        self.states += u64::from(states);
+        Ok(())
+    }
+
+    /// One stage more, which has the plan of an earlier one.
+    pub(crate) fn push_again(&mut self, earlier: usize) -> Result<(), Memory>
+        requires states { self.old.states + 2 ^ 32 ≤ 2 ^ 64 }
+        requires stages { length self.old.stages + 1 < 2 ^ 32 }
+        requires earlier { earlier < length self.old.stages }
+        ensures pushed { OnOk result ((m : Graph) (o : Option Transducer)
+            → HasNumber self.old.stages m earlier → HasNumber self.old.tables o earlier → self.new
+            ≡ record {
+              stages = self.old.stages ++ m ∷ [];
+              tables = self.old.tables ++ o ∷ [];
+              telling = self.old.telling;
+              places = self.old.places;
+              states = self.old.states + states_if o;
+            }) }
+        ensures long { OnOk result
+            (length self.new.stages ≡ length self.old.stages + 1) }
+        ensures told { OnOk result (self.new.telling ≡ self.old.telling) }
+        ensures places { OnOk result (self.new.places ≡ self.old.places) }
+        ensures few { OnOk result (self.new.states < self.old.states + 2 ^ 32) }
+    {
+        let plan = self.stages[earlier].again()?;
+        let states = match plan.table() {
+            None => 0,
+            Some(table) => table.states().len() as u32,
+        };
         self.stages.push(plan)?;
         self.states += u64::from(states);
         Ok(())
@@ -102,12 +139,16 @@ impl Compiled {
         &self.stages
     }
 
-    /// The same plans, of which stages go by tables without constant registers. A command that only
-    /// counts has no use for such tables.
+    /// The same plans, of which stages go by tables without constant registers. Stages that have
+    /// one plan share that table too. A command that only counts has no use for such tables.
     pub fn shorten(self, alloc: Global) -> Result<Compiled, Memory>
         ensures { IfOk result (λ c. c ≡ self) }
     {
-        let stages = shorten_all(alloc, self.stages)?;
+        let mut stages = Vec::with_capacity(alloc, self.stages.len())?;
+        'plans: for plan in self.stages {
+            let short = shorten_as(alloc, plan, &stages)?;
+            stages.push(short)?;
+        }
         Ok(Compiled {
             stages,
             telling: self.telling,

@@ -14,6 +14,7 @@ mod firsts;
 pub mod laws;
 pub mod limits;
 mod lowered;
+mod lowering;
 pub mod refusal;
 pub mod stages;
 mod tables;
@@ -25,6 +26,7 @@ use crate::stages::{lower_stages, plan_stages};
 use kex_machine::Trimmed;
 use kex_reader::read;
 use kex_rules::check;
+use kex_stage::common::Common;
 use std::alloc::Global;
 
 /// The plans of a program text.
@@ -45,7 +47,7 @@ pub fn compile(alloc: Global, text: &[u8], limits: &Limits) -> Result<Compiled, 
 
 /// The machines of a program text's stages, in their order: what `compile` makes before tables are
 /// asked for. The text is refused as by `compile`, if it breaks a rule of the language.
-pub fn machines(alloc: Global, text: &[u8]) -> Result<Vec<Trimmed>, CompileRefusal>
+pub fn machines(alloc: Global, text: &[u8]) -> Result<Vec<Common<Trimmed>>, CompileRefusal>
     ensures machines { IfOk result (λ ms. HasMachines text.now ms.items) }
     ensures few { IfOk result (λ ms. length ms.items < 2 ^ 32) }
     ensures refused { IfErr result (λ e. (limits : Limits) → IsRefused limits text.now e) }
@@ -53,5 +55,6 @@ pub fn machines(alloc: Global, text: &[u8]) -> Result<Vec<Trimmed>, CompileRefus
     let program = read(alloc, text)?;
     let ruled = check(alloc, &program)?;
     let lowered = lower_stages(alloc, ruled.program())?;
-    Ok(lowered.into_machines())
+    let machines = lowered.into_machines(alloc)?;
+    Ok(machines)
 }

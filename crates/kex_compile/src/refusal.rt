@@ -99,6 +99,16 @@ pub enum CompileRefusal {
     Memory,
 }
 
+impl From<Memory> for CompileRefusal {
+    ghost use Rattle.kex_compile.specs.declared.refusal.CompileRefusal.TheVariants.{Memory};
+
+    ghost from_gives = { λ _ e. e ≡ Memory };
+
+    fn from(_: Memory) -> CompileRefusal {
+        CompileRefusal::Memory
+    }
+}
+
 impl From<ReadRefusal> for CompileRefusal {
     ghost from_gives = { λ why e. e ≡ of_read why };
 

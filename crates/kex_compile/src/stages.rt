@@ -6,17 +6,13 @@ ghost use Rattle.kex_compile.specs.Stages.{AreMachines, ArePlans, IsUnplanned, K
 ghost use Rattle.kex_compile.specs.Stages.{KeepsToPairs, KeepsToStates};
 
 use crate::compiled::Compiled;
-use crate::firsts::Firsts;
 use crate::limits::Limits;
 use crate::lowered::Lowered;
+use crate::lowering::Lowering;
 use crate::refusal::PlanRefusal;
 use crate::tables::plan_machines;
-use kex_lowering::stage_machine;
 use kex_model::program::Program;
 use std::alloc::Global;
-
-/// How many places a stage may have.
-const MOST_PLACES: u32 = 1_048_576;
 
 // The node where the definition of a name begins, and node 0 for a name that has none.
 fn root_of(program: &Program, name: u32) -> u32
@@ -35,23 +31,13 @@ pub(crate) fn lower_stages(alloc: Global, program: &Program) -> Result<Lowered, 
     ensures machines { IfOk result (λ l. AreMachines program.now l) }
     ensures refused { IfErr result (λ e. (limits : Limits) → IsUnplanned limits program.now e) }
 {
-    let mut firsts = Firsts::new();
-    let mut lowered = Lowered::new(alloc);
-    'stages: for (i, start) in program.stages().iter().enumerate() {
-        let stage = i as u32 + 1;
-        match stage_machine(
-            alloc,
-            program,
-            root_of(program, start.name),
-            stage,
-            MOST_PLACES,
-        ) {
-            Ok(made) => lowered.push(made.machine, made.places)?,
-            Err(why) => firsts.note(why, stage)?,
-        }
+    let mut lowering = Lowering::new(alloc);
+    'stages: for start in program.stages() {
+        let root = root_of(program, start.name);
+        lowering.add(alloc, program, root)?;
     }
-    match firsts.least() {
-        None => Ok(lowered),
+    match lowering.firsts.least() {
+        None => Ok(lowering.lowered),
         Some(refusal) => Err(refusal),
     }
 }

@@ -3,7 +3,9 @@
 ghost use Rattle.std.specs.Prelude.{◌≡◌, ◌+◌, ◌^◌, ◌<◌, ◌≤◌, ◌++◌, ◌∷◌, [], suc, List};
 ghost use Rattle.std.specs.Prelude.{IfOk, IfErr, OnOk, length, true};
 ghost use Rattle.kex_machine.specs.Nodes.{Graph};
-ghost use Rattle.kex_compile.specs.Stages.{HasMoreNodePairs, HasMoreNodes, HasStatesIf, HasTable};
+ghost use Rattle.kex_code.specs.Codes.{HasNumber};
+ghost use Rattle.kex_compile.specs.Stages.{HasEachPlan, HasMoreNodePairs, HasMoreNodes};
+ghost use Rattle.kex_compile.specs.Stages.{HasStatesIf, HasTable};
 ghost use Rattle.kex_compile.specs.Stages.{HavePlansOrFirst, HaveTheirPlans, IsUntabled};
 ghost use Rattle.kex_compile.specs.Stages.{IsUntabledAs, IsUntabledBy, asked_telling};
 
@@ -11,11 +13,13 @@ use crate::compiled::Compiled;
 use crate::limits::Limits;
 use crate::lowered::Lowered;
 use crate::refusal::PlanRefusal;
+use kex_code::memory::Memory;
 use kex_cover::optimal;
 use kex_cover::refusal::CoverRefusal;
 use kex_determine::determine;
 use kex_determine::refusal::DetRefusal;
 use kex_machine::Trimmed;
+use kex_stage::common::Common;
 use kex_stage::plan::{Plan, Telling};
 use std::alloc::Global;
 
@@ -41,7 +45,7 @@ fn telling_of(limits: &Limits) -> Telling
 }
 
 // The plan of a machine: with a table if tables are asked for, which tells what it is to.
-fn plan(alloc: Global, machine: Trimmed, limits: &Limits) -> Result<Planned, CoverRefusal>
+fn plan(alloc: Global, machine: Common<Trimmed>, limits: &Limits) -> Result<Planned, CoverRefusal>
     requires states { limits.now.states < 4294967295 }
     requires optimal { limits.now.optimal ≡ true → limits.now.tables ≡ true }
     ensures machine { IfOk result (λ p. p.plan.machine ≡ machine) }
@@ -53,22 +57,24 @@ fn plan(alloc: Global, machine: Trimmed, limits: &Limits) -> Result<Planned, Cov
 {
     if !limits.tables {
         return Ok(Planned {
-            plan: Plan::new(machine, None),
+            plan: Plan::sharing(machine, None, Telling::Agreed),
             states: 0,
         });
     }
     if limits.optimal {
-        let table = optimal(alloc, &machine, limits.states, MOST_PAIRS)?;
+        let table = optimal(alloc, machine.get(), limits.states, MOST_PAIRS)?;
         let states = table.states().len() as u32;
+        let shared = Common::new(alloc, table)?;
         return Ok(Planned {
-            plan: Plan::best(machine, table),
+            plan: Plan::sharing(machine, Some(shared), Telling::Best),
             states,
         });
     }
-    let table = determine(alloc, &machine, limits.states)?;
+    let table = determine(alloc, machine.get(), limits.states)?;
     let states = table.states().len() as u32;
+    let shared = Common::new(alloc, table)?;
     Ok(Planned {
-        plan: Plan::new(machine, Some(table)),
+        plan: Plan::sharing(machine, Some(shared), Telling::Agreed),
         states,
     })
 }
@@ -106,7 +112,7 @@ impl Planning {
     fn add(
         &mut self,
         alloc: Global,
-        machine: Trimmed,
+        machine: Common<Trimmed>,
         stage: u32,
         limits: &Limits,
     ) -> Result<(), PlanRefusal>
@@ -114,14 +120,15 @@ impl Planning {
         requires optimal { limits.now.optimal ≡ true → limits.now.tables ≡ true }
         requires told { self.old.compiled.telling ≡ asked_telling limits.now }
         requires few { self.old.compiled.states + 2 ^ 32 ≤ 2 ^ 64 }
-        requires short { length self.old.compiled.stages + 1 < 2 ^ 32 }
+        requires each { HasEachPlan stage self.old.too_many_pairs self.old.compiled }
+        requires number { machine.stage ≡ stage }
         ensures told { OnOk result
             (self.new.compiled.telling ≡ self.old.compiled.telling) }
         ensures places { OnOk result (self.new.compiled.places ≡ self.old.compiled.places) }
         ensures few { OnOk result
             (self.new.compiled.states ≤ self.old.compiled.states + 2 ^ 32) }
-        ensures short { OnOk result
-            (length self.new.compiled.stages ≤ length self.old.compiled.stages + 1) }
+        ensures each { OnOk result
+            (HasEachPlan (suc stage) self.new.too_many_pairs self.new.compiled) }
         ensures plans { (ms : List Graph) → stage ≡ suc (length ms)
             → HavePlansOrFirst limits.now ms self.old.too_many_pairs self.old.compiled
             → OnOk result (HavePlansOrFirst limits.now (ms ++ machine ∷ [])
@@ -131,7 +138,7 @@ impl Planning {
             → IfErr result (λ e. IsUntabledAs limits.now machine stage e) }
     {
         if self.too_many_pairs.is_some() {
-            return keep_to_states(alloc, &machine, stage, limits);
+            return keep_to_states(alloc, machine.get(), stage, limits);
         }
         match plan(alloc, machine, limits) {
             Ok(planned) => {
@@ -145,6 +152,29 @@ impl Planning {
             Err(CoverRefusal::TooManyStates { seen: _ }) => Err(PlanRefusal::TooManyStates(stage)),
             Err(CoverRefusal::Memory) => Err(PlanRefusal::Memory),
         }
+    }
+
+    // One machine more, which an earlier stage has too: its stage has that one's plan.
+    fn add_again(&mut self, earlier: usize, stage: u32) -> Result<(), Memory>
+        requires few { self.old.compiled.states + 2 ^ 32 ≤ 2 ^ 64 }
+        requires each { HasEachPlan stage self.old.too_many_pairs self.old.compiled }
+        requires earlier { earlier + 1 < stage }
+        ensures told { OnOk result
+            (self.new.compiled.telling ≡ self.old.compiled.telling) }
+        ensures places { OnOk result (self.new.compiled.places ≡ self.old.compiled.places) }
+        ensures few { OnOk result
+            (self.new.compiled.states ≤ self.old.compiled.states + 2 ^ 32) }
+        ensures each { OnOk result
+            (HasEachPlan (suc stage) self.new.too_many_pairs self.new.compiled) }
+        ensures plans { (limits : Limits) (ms : List Graph) (m : Graph) → HasNumber ms m earlier
+            → HavePlansOrFirst limits ms self.old.too_many_pairs self.old.compiled
+            → OnOk result (HavePlansOrFirst limits (ms ++ m ∷ []) self.new.too_many_pairs
+            self.new.compiled) }
+    {
+        if self.too_many_pairs.is_some() {
+            return Ok(());
+        }
+        self.compiled.push_again(earlier)
     }
 }
 
@@ -166,10 +196,16 @@ pub(crate) fn plan_machines(
         compiled: Compiled::new(alloc, lowered.places(), telling_of(limits)),
         too_many_pairs: None,
     };
+    let machines = lowered.into_machines(alloc)?;
     let mut stage = 0;
-    'machines: for machine in lowered.into_machines() {
+    'machines: for machine in machines {
         stage += 1;
-        planning.add(alloc, machine, stage, limits)?;
+        let first = machine.get().machine().stage();
+        if first < stage {
+            planning.add_again(first as usize - 1, stage)?;
+        } else {
+            planning.add(alloc, machine, stage, limits)?;
+        }
     }
     match planning.too_many_pairs {
         None => Ok(planning.compiled),

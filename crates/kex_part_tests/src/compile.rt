@@ -116,6 +116,11 @@ one start: a >> b a := /a/ a b := /b/ => no text has a parse by stage 1
 4096 main := %~%200%foo => the name at byte 208 has no definition
 4096 main := %~%201%foo => over a limit at byte 208
 4096 start: a% >> a%255% a := 1 => 256 512 256
+4096 start: a >> b >> a >> b a := /x*/ b := /y/ => 4 10 6
+4096 start: a >> b >> b a := /a/ b := /b/ b => no text has a parse by stage 2
+2 start: a >> b >> a >> b a := /x*/ b := /y{3}/ => stage 2 has too many states
+4096 start: b >> a >> b a := /(a{1000}){600}/ b := /b/ b => stage 2 has too many places
+65536 start: a% >> a%255% a := /(a{216}){151}/ => 256 16777216 8349952
 4096 start: a% >> a%256% a := 1 => over a limit at byte 1287
 4096 main := %(%1048568% => unexpected token at byte 1048576
 4096 main := 1/%*%1048566% => bad token at byte 9
@@ -142,6 +147,38 @@ fn texts_are_compiled_or_refused(rt: HostRuntime) -> Result<(), Fail> {
         let text = text_of(alloc, spelling)?;
         let got = answer(alloc, &text, &limits_of(word)?)?;
         assert_eq!(rt; got.as_str(), want, "{row}");
+    }
+    Ok(())
+}
+
+// The numbers of the stages whose machines the stages have.
+fn machine_numbers(alloc: Global, text: &[u8]) -> Result<String, Fail> {
+    let compiled = compile(alloc, text, &ANY)?;
+    let mut numbers = String::new(alloc);
+    for plan in compiled.stages() {
+        let number = plan.machine().machine().stage();
+        let word = format!(in alloc; " {number}")?;
+        numbers.push_str(word.as_str())?;
+    }
+    Ok(numbers)
+}
+
+// Stages that begin at one node have one machine, that of the first of them.
+#[test]
+fn stages_share_machines(rt: HostRuntime) -> Result<(), Fail> {
+    let alloc = rt.alloc();
+    let rows = [
+        ("main := /a/", " 1"),
+        ("start: a >> b a := /x/ b := /x/", " 1 2"),
+        ("start: a >> a >> a a := /x/", " 1 1 1"),
+        (
+            "start: a >> b >> a >> c >> b a := /x/ b := /x/ c := a",
+            " 1 2 1 4 2",
+        ),
+    ];
+    for (text, want) in rows {
+        let got = machine_numbers(alloc, text.as_bytes())?;
+        assert_eq!(rt; got.as_str(), want, "{text}");
     }
     Ok(())
 }

@@ -49,7 +49,7 @@ module _ (file text : List ℕ) (le : length file ≤ most_bytes) (a : ReadSoFar
     refused_stages Memory h = tt
     refused_stages (BadTable line) (before, rest, e, broken, is) = (le, subst (λ z. IsBadLine file z) (sym (is ∙ ap (λ z. line_behind (z ++ before)) read)) (bad_line machines (whole ∙ ap (λ z. head_text text ++ z) e) broken))
 
-    module _ (tables : List (List (List (Option Transition)))) (bytes : List ℕ) (texts : AreStageTexts ms tables bytes) (b : ReadSoFar) (on : ReadsBytes a bytes b) where
+    module _ (tables : List (List (List (Option Transition)))) (bytes : List ℕ) (texts : AreStageTexts 1 ms tables bytes) (b : ReadSoFar) (on : ReadsBytes a bytes b) where
       rest_is : file ≡ head_text text ++ (bytes ++ b.rest)
       rest_is = whole ∙ ap (λ z. head_text text ++ z) on.came
 

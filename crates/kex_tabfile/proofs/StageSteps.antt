@@ -24,7 +24,7 @@ Go = List (Option Transition)
 
 -- a target stays one
 abbrev targets_at : Spot → List Target
-targets_at at_stage = []
+targets_at (at_stage stage) = []
 targets_at (at_state told) = told.targets
 targets_at (at_init told s) = told.targets
 targets_at (at_class told s go) = told.targets
@@ -123,11 +123,11 @@ ends_more g targets after rows row s stay each is ends i r e = ⊎_elim
 
 -- ---- a stage
 
-pub stage_breaks : (g : Graph) (numbers classes : List ℕ) → AreNumbersOf g numbers classes → (a : ReadSoFar) (e : TableRefusal) → BreaksReading g numbers classes a at_stage e → BreaksStage g a e
-stage_breaks g numbers classes of a TableTooLong h = absurd h
-stage_breaks g numbers classes of a (Text why) h = absurd h
-stage_breaks g numbers classes of a Memory h = tt
-stage_breaks g numbers classes of a (BadTable line) (before, rest, e, broken, is) = (before, rest, e, record { numbers = numbers; classes = classes; numbers_of = of; breaks = broken }, is)
+pub stage_breaks : (stage : ℕ) (g : Graph) (numbers classes : List ℕ) → AreNumbersOf g numbers classes → (a : ReadSoFar) (e : TableRefusal) → BreaksReading g numbers classes a (at_stage stage) e → BreaksStage stage g a e
+stage_breaks stage g numbers classes of a TableTooLong h = absurd h
+stage_breaks stage g numbers classes of a (Text why) h = absurd h
+stage_breaks stage g numbers classes of a Memory h = tt
+stage_breaks stage g numbers classes of a (BadTable line) (before, rest, e, broken, is) = (before, rest, e, record { numbers = numbers; classes = classes; numbers_of = of; breaks = broken }, is)
 
 none_known : (g : Graph) → AreTargets g [] []
 none_known g = record { trees = tt; one = λ k s t i j. absurd i }
@@ -150,39 +150,39 @@ start_known g none entries tree flag s empty met other machine shape =
     first_known g entries flag (target 0 s) (λ e. met e g [] s begun machine shape) (λ e m. other e g [] (target 0 s ∷ []) s begun machine shape m)
 
 -- the lines of a stage are right, and tell these rows
-pub record ReadsStates (g : Graph) (numbers classes : List ℕ) (a b : ReadSoFar) (rows : List Row) : Type 0 where
+pub record ReadsStates (stage : ℕ) (g : Graph) (numbers classes : List ℕ) (a b : ReadSoFar) (rows : List Row) : Type 0 where
   pub end : Told
   pub told : IsTold g classes end
   pub through : IsThrough end
   pub same : goes_of rows ≡ end.rows
   pub ends : EachHasEnds g end.targets rows
-  pub checks : Checks g numbers classes a at_stage (at_state end) b
+  pub checks : Checks g numbers classes a (at_stage stage) (at_state end) b
   pub few : length rows ≤ most_table_states
 
 abbrev pub StatesCheck : Graph → List ℕ → List ℕ → ℕ → List (ℕ × Outline) → List Row → ReadSoFar → ReadSoFar → Type 0
 StatesCheck g numbers classes states entries rows a b = (told : Told) → told.rows ≡ [] → ChecksAt g entries states 0 told → (end : Told) × (end.rows ≡ goes_of rows) × (end.states ≡ states) × (length rows ≡ states) × EachHasEnds g end.targets rows × Checks g numbers classes a (at_state told) (at_state end) b
 
-module _ (g : Graph) (numbers classes : List ℕ) (a b : ReadSoFar) (states : ℕ) (first : Grown Part ℕ) (f : IsFirstTree g (Some first)) (some : 0 < states) (few : states ≤ most_table_states) (reads : ReadsBytes a (stage_line g.stage (class_count classes) states) b) (entries : List (ℕ × Outline)) (known : AreTargets g entries (target 0 (shape_of first.tree) ∷ [])) where
+module _ (stage : ℕ) (g : Graph) (numbers classes : List ℕ) (a b : ReadSoFar) (states : ℕ) (first : Grown Part ℕ) (f : IsFirstTree g (Some first)) (some : 0 < states) (few : states ≤ most_table_states) (reads : ReadsBytes a (stage_line stage (class_count classes) states) b) (entries : List (ℕ × Outline)) (known : AreTargets g entries (target 0 (shape_of first.tree) ∷ [])) where
   abbrev begun : Told
   begun = told_first states (shape_of first.tree)
 
   pub stands_first : ChecksAt g entries states 0 begun
   stands_first = record { known = known; states_are = refl; of_state = refl }
 
-  checks_first : Checks g numbers classes a at_stage (at_state begun) b
-  checks_first = checks_line g numbers classes a b at_stage (at_state begun) (stage_line g.stage (class_count classes) states) reads (right_stage states first some few f)
+  checks_first : Checks g numbers classes a (at_stage stage) (at_state begun) b
+  checks_first = checks_line g numbers classes a b (at_stage stage) (at_state begun) (stage_line stage (class_count classes) states) reads (right_stage states first some few f)
 
-  pub states_break : (e : TableRefusal) → ((told : Told) → told.rows ≡ [] → ChecksAt g entries states 0 told → BreaksReading g numbers classes b (at_state told) e) → BreaksReading g numbers classes a at_stage e
-  states_break e bad = breaks_later g numbers classes a b at_stage (at_state begun) e checks_first (bad begun refl stands_first)
+  pub states_break : (e : TableRefusal) → ((told : Told) → told.rows ≡ [] → ChecksAt g entries states 0 told → BreaksReading g numbers classes b (at_state told) e) → BreaksReading g numbers classes a (at_stage stage) e
+  states_break e bad = breaks_later g numbers classes a b (at_stage stage) (at_state begun) e checks_first (bad begun refl stands_first)
 
-  pub reads_states : (d : ReadSoFar) (rows : List Row) → StatesCheck g numbers classes states entries rows b d → ReadsStates g numbers classes a d rows
+  pub reads_states : (d : ReadSoFar) (rows : List Row) → StatesCheck g numbers classes states entries rows b d → ReadsStates stage g numbers classes a d rows
   reads_states d rows right =
       let r = right begun refl stands_first in
-      let all = checks_on g numbers classes a b d at_stage (at_state begun) (at_state r.0) checks_first r.5 in
+      let all = checks_on g numbers classes a b d (at_stage stage) (at_state begun) (at_state r.0) checks_first r.5 in
       let long : length (goes_of rows) ≡ length rows = goes_long rows in
       record {
         end = r.0;
-        told = told_by g classes numbers at_stage (at_state r.0) all.bytes all.walked tt;
+        told = told_by g classes numbers (at_stage stage) (at_state r.0) all.bytes all.walked tt;
         through = ap length r.1 ∙ long ∙ r.3 ∙ sym r.2;
         same = sym r.1;
         ends = r.4;

@@ -1,5 +1,5 @@
 -- The lines of stages, one stage after the other.
-use Rattle.std.proofs.Common.{◌≡◌, ℕ, List, [], ◌∷◌, ◌++◌, Option, inl, inr, ⊎_elim, Some, map, refl, sym, ap, subst, ◌∙◌, append_assoc, append-nil}
+use Rattle.std.proofs.Common.{◌≡◌, ◌+◌, ℕ, suc, List, length, arith, [], ◌∷◌, ◌++◌, Option, inl, inr, ⊎_elim, Some, map, refl, sym, ap, subst, ◌∙◌, append_assoc, append-nil}
 use Rattle.kex_code.specs.Codes.{IsAmong}
 use Rattle.kex_machine.specs.Nodes.{Graph}
 use Rattle.kex_sst.specs.declared.table.Transition.{Transition}
@@ -19,16 +19,16 @@ abbrev Rows : Type 0
 Rows = List (List (Option Transition))
 
 -- one stage more
-pub texts_more : (gs : List Graph) (tables : List Rows) (bytes : List ℕ) (g : Graph) (rows : Rows) (own : List ℕ) → AreStageTexts gs tables bytes → IsStageText g rows own → AreStageTexts (gs ++ g ∷ []) (tables ++ rows ∷ []) (bytes ++ own)
-texts_more [] [] bytes g rows own h k = (own, [], k, refl, ap (λ z. z ++ own) h ∙ sym (append-nil own))
-texts_more (x ∷ gs) (t ∷ tables) bytes g rows own (front, back, s, rest, e) k =
-    let r = texts_more gs tables back g rows own rest k in
+pub texts_more : (stage : ℕ) (gs : List Graph) (tables : List Rows) (bytes : List ℕ) (g : Graph) (rows : Rows) (own : List ℕ) → AreStageTexts stage gs tables bytes → IsStageText (stage + length gs) g rows own → AreStageTexts stage (gs ++ g ∷ []) (tables ++ rows ∷ []) (bytes ++ own)
+texts_more stage [] [] bytes g rows own h k = (own, [], subst (λ n. IsStageText n g rows own) (let e : stage + 0 ≡ stage = omega arith in e) k, refl, ap (λ z. z ++ own) h ∙ sym (append-nil own))
+texts_more stage (x ∷ gs) (t ∷ tables) bytes g rows own (front, back, s, rest, e) k =
+    let r = texts_more (suc stage) gs tables back g rows own rest (subst (λ n. IsStageText n g rows own) (let f : stage + suc (length gs) ≡ suc stage + length gs = omega arith in f) k) in
     (front, back ++ own, s, r, ap (λ z. z ++ own) e ∙ append_assoc front back own)
-texts_more [] (t ∷ tables) bytes g rows own h k = absurd h
-texts_more (x ∷ gs) [] bytes g rows own h k = absurd h
+texts_more stage [] (t ∷ tables) bytes g rows own h k = absurd h
+texts_more stage (x ∷ gs) [] bytes g rows own h k = absurd h
 
 -- what breaks in a stage breaks in the file
-pub stages_break : (gs done left : List Graph) (g : Graph) (tables : List Rows) (front : List ℕ) (a b : ReadSoFar) (e : TableRefusal) → gs ≡ done ++ g ∷ left → AreStageTexts done tables front → ReadsBytes a front b → BreaksStage g b e → BreaksStages gs a e
+pub stages_break : (gs done left : List Graph) (g : Graph) (tables : List Rows) (front : List ℕ) (a b : ReadSoFar) (e : TableRefusal) → gs ≡ done ++ g ∷ left → AreStageTexts 1 done tables front → ReadsBytes a front b → BreaksStage (suc (length done)) g b e → BreaksStages gs a e
 stages_break gs done left g tables front a b TableTooLong split texts reads h = absurd h
 stages_break gs done left g tables front a b (Text why) split texts reads h = absurd h
 stages_break gs done left g tables front a b Memory split texts reads h = tt

@@ -26,7 +26,7 @@ same_change u v a h k = ap₂ (λ x y. let w : Change = record { out = x; regs =
 module _ (g : Graph) (numbers classes : List ℕ) where
   -- what a line that is right at a spot is
   abbrev OnlyLine : Spot → List ℕ → Type 0
-  OnlyLine at_stage line = (n : ℕ) × (0 < n) × (n ≤ most_table_states) × (line ≡ stage_line g.stage (class_count classes) n)
+  OnlyLine (at_stage stage) line = (n : ℕ) × (0 < n) × (n ≤ most_table_states) × (line ≡ stage_line stage (class_count classes) n)
   OnlyLine (at_state told) line = (s : Shape ℕ) × IsAmong told.targets (target (length told.rows) s) × (line ≡ state_line numbers (length told.rows) s)
   OnlyLine (at_init told s) line = (u : Change) × BeginsWith g u × (line ≡ init_line u)
   OnlyLine (at_class told s go) line = (r : Transition) × (a : Grown Part ℕ) × (after : List Target) × GoesByClass g (length go) s (Some a) × IsChange r.update a × (r.target < told.states) × MeetsTarget told.targets (target r.target (shape_of a.tree)) after × (line ≡ go_line (length told.rows) (length go) r.target r.update)
@@ -39,7 +39,7 @@ module _ (g : Graph) (numbers classes : List ℕ) where
 
   -- where a spot is passed by without a line
   abbrev IsPassed : Spot → Type 0
-  IsPassed at_stage = ⊥
+  IsPassed (at_stage stage) = ⊥
   IsPassed (at_state told) = ⊥
   IsPassed (at_init told s) = ⊥
   IsPassed (at_class told s go) = GoesByClass g (length go) s None ⊎ (length go ≡ class_count classes)
@@ -50,8 +50,8 @@ module _ (g : Graph) (numbers classes : List ℕ) where
 
   -- ---- where a line breaks
 
-  pub breaks_stage : (a : ReadSoFar) → ((n : ℕ) → 0 < n → n ≤ most_table_states → Begins a.rest (stage_line g.stage (class_count classes) n) → ⊥) → (line : ℕ) → line ≡ line_behind a.before → BreaksReading g numbers classes a at_stage (BadTable line)
-  breaks_stage a none line is = breaks_here g numbers classes a at_stage (λ q h. passed at_stage q h) (λ h. h) (λ l q h b. let o = only_line at_stage l q h in none o.0 o.1 o.2 (subst (λ z. Begins a.rest z) o.3 b)) line is
+  pub breaks_stage : (stage : ℕ) (a : ReadSoFar) → ((n : ℕ) → 0 < n → n ≤ most_table_states → Begins a.rest (stage_line stage (class_count classes) n) → ⊥) → (line : ℕ) → line ≡ line_behind a.before → BreaksReading g numbers classes a (at_stage stage) (BadTable line)
+  breaks_stage stage a none line is = breaks_here g numbers classes a (at_stage stage) (λ q h. passed (at_stage stage) q h) (λ h. h) (λ l q h b. let o = only_line (at_stage stage) l q h in none o.0 o.1 o.2 (subst (λ z. Begins a.rest z) o.3 b)) line is
 
   pub breaks_state : (a : ReadSoFar) (told : Told) → length told.rows < told.states → ((s : Shape ℕ) → IsAmong told.targets (target (length told.rows) s) → Begins a.rest (state_line numbers (length told.rows) s) → ⊥) → (line : ℕ) → line ≡ line_behind a.before → BreaksReading g numbers classes a (at_state told) (BadTable line)
   breaks_state a told lt none line is = breaks_here g numbers classes a (at_state told) (λ q h. passed (at_state told) q h) (λ h. omega (arith, h, lt)) (λ l q h b. let o = only_line (at_state told) l q h in none o.0 o.1 (subst (λ z. Begins a.rest z) o.2 b)) line is

@@ -50,7 +50,7 @@ module _ (g : Graph) (classes : List ℕ) where
     pub rows : (i : ℕ) (row : List (Option Transition)) → slice_get told.rows i ≡ Some row → IsToldRow told.targets told.states i row
 
   abbrev pub IsToldAt : Spot → Type 0
-  IsToldAt at_stage = Unit {0}
+  IsToldAt (at_stage stage) = Unit {0}
   IsToldAt (at_state told) = IsTold told
   IsToldAt (at_init told s) = IsTold told × IsAmong told.targets (target (length told.rows) s)
   IsToldAt (at_class told s go) = IsTold told × IsAmong told.targets (target (length told.rows) s) × EachGoes told.targets told.states s go

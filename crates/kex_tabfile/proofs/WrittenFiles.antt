@@ -1,7 +1,8 @@
 -- What is written of a file, part by part.
-use Rattle.std.proofs.Common.{◌≡◌, ℕ, suc, ◌+◌, ◌≤◌, List, [], ◌∷◌, ◌++◌, Some, length, map, take, sym, ap, subst, ◌∙◌, append_assoc, arith}
+use Rattle.std.proofs.Common.{◌≡◌, ℕ, suc, ◌+◌, ◌<◌, ◌≤◌, List, [], ◌∷◌, ◌++◌, Some, length, map, take, sym, ap, subst, ◌∙◌, append_assoc, arith}
 use Rattle.std.specs.Prelude.{slice_get, codes, decimal}
-use Rattle.std.proofs.lemmas.List.{map-append}
+use Rattle.std.proofs.lemmas.List.{length-map, length-take-le, map-append}
+use Rattle.std.proofs.lemmas.Option.{slice_get_within}
 use Rattle.kex_model.proofs.DistinctItems.{among_get}
 use Rattle.kex_sst.specs.Tables.{Transducer}
 use Rattle.kex_stage.specs.Plans.{Planned, machine_of}
@@ -30,9 +31,11 @@ pub planned : (plans : List Planned) → EachDetermined plans → (i : ℕ) (p :
 planned plans each i p e = each p (among_get plans i p e)
 
 -- one stage more
-pub stage_more : (plans : List Planned) (i : ℕ) (p : Planned) (t : Transducer) (lines own : List ℕ) → slice_get plans i ≡ Some p → p.table ≡ Some t → AreStageTexts (map machine_of (take i plans)) (map goes_in (take i plans)) lines → IsStageText p.machine (goes_of t.states) own → AreStageTexts (map machine_of (take (i + 1) plans)) (map goes_in (take (i + 1) plans)) (lines ++ own)
+pub stage_more : (plans : List Planned) (i : ℕ) (p : Planned) (t : Transducer) (lines own : List ℕ) → slice_get plans i ≡ Some p → p.table ≡ Some t → AreStageTexts 1 (map machine_of (take i plans)) (map goes_in (take i plans)) lines → IsStageText (i + 1) p.machine (goes_of t.states) own → AreStageTexts 1 (map machine_of (take (i + 1) plans)) (map goes_in (take (i + 1) plans)) (lines ++ own)
 stage_more plans i p t lines own e has texts stage =
-    let here : IsStageText p.machine (goes_in p) own = subst (λ z. IsStageText p.machine z own) (ap goes_if (sym has)) stage in
-    let more = texts_more (map machine_of (take i plans)) (map goes_in (take i plans)) lines p.machine (goes_in p) own texts here in
-    subst (λ z. AreStageTexts z (map goes_in (take (i + 1) plans)) (lines ++ own)) (sym (map_take machine_of plans i p e))
-    (subst (λ z. AreStageTexts (map machine_of (take i plans) ++ p.machine ∷ []) z (lines ++ own)) (sym (map_take goes_in plans i p e)) more)
+    let within : i < length plans = slice_get_within plans i p e in
+    let long : i + 1 ≡ 1 + length (map machine_of (take i plans)) = omega (arith, length-map (take i plans) machine_of, length-take-le i plans (omega (arith, within))) in
+    let here : IsStageText (1 + length (map machine_of (take i plans))) p.machine (goes_in p) own = subst (λ n. IsStageText n p.machine (goes_in p) own) long (subst (λ z. IsStageText (i + 1) p.machine z own) (ap goes_if (sym has)) stage) in
+    let more = texts_more 1 (map machine_of (take i plans)) (map goes_in (take i plans)) lines p.machine (goes_in p) own texts here in
+    subst (λ z. AreStageTexts 1 z (map goes_in (take (i + 1) plans)) (lines ++ own)) (sym (map_take machine_of plans i p e))
+    (subst (λ z. AreStageTexts 1 (map machine_of (take i plans) ++ p.machine ∷ []) z (lines ++ own)) (sym (map_take goes_in plans i p e)) more)

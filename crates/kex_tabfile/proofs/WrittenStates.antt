@@ -214,8 +214,8 @@ module _ (g : Graph) (t : Transducer) (d : IsDetermined g t) where
         (r.0, subst (λ y. Walk p (states_text numbers t.initial i y (row ∷ left)) z) (sym (es ∙ drop_at d.shapes i s.0 s.1)) all)
 
     -- what is written of the stage
-    pub stage_text : ArePlaceNumbers g numbers → length t.states ≤ most_table_states → IsStageText g (goes_of t.states) (stage_line g.stage (class_count t.classes) (length t.states) ++ states_text numbers t.initial 0 d.shapes t.states)
-    stage_text numbered few =
+    pub stage_text : (stage : ℕ) → ArePlaceNumbers g numbers → length t.states ≤ most_table_states → IsStageText stage g (goes_of t.states) (stage_line stage (class_count t.classes) (length t.states) ++ states_text numbers t.initial 0 d.shapes t.states)
+    stage_text stage numbered few =
         let b = d.rows.begins in
         let s = shape_of b.0.tree in
         let some : 0 < length t.states = omega (arith, slice_get_within d.shapes 0 s b.3, d.rows.count) in
@@ -223,13 +223,13 @@ module _ (g : Graph) (t : Transducer) (d : IsDetermined g t) where
         let w = walk_states [] t.states d.shapes 1 (target 0 s ∷ []) (at_first g t d) refl met in
         let q : Spot = at_state (told (target 0 s ∷ []) []) in
         let z : Spot = at_state (told w.0 (goes_of t.states)) in
-        let right : IsRightLine g numbers t.classes at_stage (stage_line g.stage (class_count t.classes) (length t.states)) q = right_stage (length t.states) b.0 some few b.1 in
+        let right : IsRightLine g numbers t.classes (at_stage stage) (stage_line stage (class_count t.classes) (length t.states)) q = right_stage (length t.states) b.0 some few b.1 in
         record {
           numbers = numbers;
           classes = t.classes;
           numbers_of = record { numbered = numbered; classed = d.classes };
           told = told w.0 (goes_of t.states);
-          walked = walk_on g numbers t.classes at_stage q z (stage_line g.stage (class_count t.classes) (length t.states)) (states_text numbers t.initial 0 d.shapes t.states) (reads_line stays right) w.1;
+          walked = walk_on g numbers t.classes (at_stage stage) q z (stage_line stage (class_count t.classes) (length t.states)) (states_text numbers t.initial 0 d.shapes t.states) (reads_line stays right) w.1;
           through = length-goes t.states;
           rows_are = refl;
         }

@@ -76,16 +76,17 @@ abbrev pub EachHasEnds : Graph → List Target → List Row → Type 0
 EachHasEnds g targets rows = (i : ℕ) (r : Row) → slice_get rows i ≡ Some r → (s : Shape ℕ)
     × IsAmong targets (record { state = i; tree = s }) × HasEnds g s r.registers r.accepting
 
--- the lines of a stage were read
-abbrev pub ReadsStage : Graph → List (List (Option Transition)) → ReadSoFar → ReadSoFar → Type 0
-ReadsStage g rows old new = (bytes : List ℕ) × IsStageText g rows bytes × ReadsBytes old bytes new
+-- the lines of the stage with this number were read
+abbrev pub ReadsStage : ℕ → Graph → List (List (Option Transition)) → ReadSoFar → ReadSoFar → Type 0
+ReadsStage stage g rows old new = (bytes : List ℕ) × IsStageText stage g rows bytes
+    × ReadsBytes old bytes new
 
--- why the lines of a stage are refused
-abbrev pub BreaksStage : Graph → ReadSoFar → TableRefusal → Type 0
-BreaksStage g old (BadTable line) = (before rest : List ℕ) × (old.rest ≡ before ++ rest)
-    × BreaksInStage g before rest × (line ≡ line_behind (old.before ++ before))
-BreaksStage g old Memory = Unit {0}
-BreaksStage g old _ = ⊥
+-- why the lines of the stage with this number are refused
+abbrev pub BreaksStage : ℕ → Graph → ReadSoFar → TableRefusal → Type 0
+BreaksStage stage g old (BadTable line) = (before rest : List ℕ) × (old.rest ≡ before ++ rest)
+    × BreaksInStage stage g before rest × (line ≡ line_behind (old.before ++ before))
+BreaksStage stage g old Memory = Unit {0}
+BreaksStage stage g old _ = ⊥
 
 -- the same of several stages
 abbrev pub BreaksStages : List Graph → ReadSoFar → TableRefusal → Type 0

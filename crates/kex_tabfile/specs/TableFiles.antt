@@ -1,6 +1,6 @@
 -- What a good table file is, and at which line another breaks.
-use Rattle.std.specs.Prelude.{◌≡◌, ℕ, ◌<◌, ◌≤◌, List, [], ◌∷◌, ◌++◌, Option, Some, None, length}
-use Rattle.std.specs.Prelude.{map}
+use Rattle.std.specs.Prelude.{◌≡◌, ℕ, suc, ◌<◌, ◌≤◌, List, [], ◌∷◌, ◌++◌, Option, Some, None}
+use Rattle.std.specs.Prelude.{length, map}
 use Rattle.kex_code.specs.Codes.{Begins, IsAmong}
 use Rattle.kex_machine.specs.Nodes.{Graph}
 use Rattle.kex_sst.specs.declared.table.Transition.{Transition}
@@ -19,18 +19,20 @@ use Rattle.kex_tabfile.specs.declared.refusal.TableRefusal.{TableRefusal}
 use Rattle.kex_tabfile.specs.declared.refusal.TableRefusal.TheVariants.{TableTooLong, BadTable}
 use Rattle.kex_tabfile.specs.declared.refusal.TableRefusal.TheVariants.{Text, Memory}
 
--- the lines of stages, one after the other
-abbrev pub AreStageTexts : List Graph → List (List (List (Option Transition))) → List ℕ → Type 0
-AreStageTexts [] [] bytes = bytes ≡ []
-AreStageTexts (g ∷ gs) (rows ∷ tables) bytes = (front back : List ℕ) × IsStageText g rows front
-    × AreStageTexts gs tables back × (bytes ≡ front ++ back)
-AreStageTexts gs tables bytes = ⊥
+-- the lines of stages, one after the other, numbered from this number on
+abbrev pub AreStageTexts : ℕ → List Graph → List (List (List (Option Transition))) → List ℕ
+    → Type 0
+AreStageTexts stage [] [] bytes = bytes ≡ []
+AreStageTexts stage (g ∷ gs) (rows ∷ tables) bytes = (front back : List ℕ)
+    × IsStageText stage g rows front × AreStageTexts (suc stage) gs tables back
+    × (bytes ≡ front ++ back)
+AreStageTexts stage gs tables bytes = ⊥
 
 -- the file has the text, and the lines of these machines' tables
 pub record IsTableFile (file text : List ℕ) (ms : List Graph)
     (tables : List (List (List (Option Transition)))) : Type 0 where
   pub lines : List ℕ
-  pub stages : AreStageTexts ms tables lines
+  pub stages : AreStageTexts 1 ms tables lines
   pub whole : file ≡ head_text text ++ (lines ++ end_line)
 
 -- where the states of a table go, by class
@@ -60,12 +62,13 @@ pub record IsGood (file : List ℕ) (plans : List Planned) : Type 0 where
 pub data BreaksLines (ms : List Graph) : List ℕ → List ℕ → Type 0 where
   in_stage : (done left : List Graph) {g : Graph} (tables : List (List (List (Option Transition))))
       (front : List ℕ) {before rest : List ℕ} → ms ≡ done ++ g ∷ left
-      → AreStageTexts done tables front → BreaksInStage g before rest
+      → AreStageTexts 1 done tables front → BreaksInStage (suc (length done)) g before rest
       → BreaksLines ms (front ++ before) rest
   at_end : (tables : List (List (List (Option Transition)))) {before rest : List ℕ}
-      → AreStageTexts ms tables before → (Begins rest end_line → ⊥) → BreaksLines ms before rest
+      → AreStageTexts 1 ms tables before → (Begins rest end_line → ⊥) → BreaksLines ms before rest
   past_end : (tables : List (List (List (Option Transition)))) (before : List ℕ) {rest : List ℕ}
-      → AreStageTexts ms tables before → (rest ≡ [] → ⊥) → BreaksLines ms (before ++ end_line) rest
+      → AreStageTexts 1 ms tables before → (rest ≡ [] → ⊥)
+      → BreaksLines ms (before ++ end_line) rest
 
 -- the line of this number, before the text, is the first that is not right
 pub data IsBadFront (file : List ℕ) : ℕ → Type 0 where

@@ -36,11 +36,11 @@ told_first n s = record {
   rows = [];
 }
 
--- where a line of a stage stands: the stage's own; that of the next state, or what comes behind the
--- last; that of the start's update; or one of the next state, which has this tree, behind so many
--- classes
+-- where a line of a stage stands: the stage's own, with this number; that of the next state, or
+-- what comes behind the last; that of the start's update; or one of the next state, which has this
+-- tree, behind so many classes
 pub data Spot : Type 0 where
-  at_stage : Spot
+  at_stage : ℕ → Spot
   at_state : Told → Spot
   at_init : Told → Shape ℕ → Spot
   at_class : Told → Shape ℕ → List (Option Transition) → Spot
@@ -63,8 +63,9 @@ GoesByClass g class s a = (b : ℕ) → HasClass g class b → IsNext g b s a
 module _ (g : Graph) (numbers classes : List ℕ) where
   -- at this spot the line is right, and leads to that spot
   pub data IsRightLine : Spot → List ℕ → Spot → Type 0 where
-    right_stage : (n : ℕ) (a : Grown Part ℕ) → 0 < n → n ≤ most_table_states
-        → IsFirstTree g (Some a) → IsRightLine at_stage (stage_line g.stage (class_count classes) n)
+    right_stage : {stage : ℕ} (n : ℕ) (a : Grown Part ℕ) → 0 < n → n ≤ most_table_states
+        → IsFirstTree g (Some a)
+        → IsRightLine (at_stage stage) (stage_line stage (class_count classes) n)
         (at_state (told_first n (shape_of a.tree)))
     right_state : {told : Told} (s : Shape ℕ) → length told.rows < told.states
         → IsAmong told.targets (record { state = length told.rows; tree = s })
@@ -108,19 +109,19 @@ pub record AreNumbersOf (g : Graph) (numbers classes : List ℕ) : Type 0 where
 abbrev pub IsThrough : Told → Type 0
 IsThrough told = length told.rows ≡ told.states
 
--- the bytes are the lines of a stage whose states go so
-pub record IsStageText (g : Graph) (rows : List (List (Option Transition)))
+-- the bytes are the lines of the stage with this number, whose states go so
+pub record IsStageText (stage : ℕ) (g : Graph) (rows : List (List (Option Transition)))
     (bytes : List ℕ) : Type 0 where
   pub numbers : List ℕ
   pub classes : List ℕ
   pub numbers_of : AreNumbersOf g numbers classes
   pub told : Told
-  pub walked : WalksLines g numbers classes at_stage bytes (at_state told)
+  pub walked : WalksLines g numbers classes (at_stage stage) bytes (at_state told)
   pub through : IsThrough told
   pub rows_are : told.rows ≡ rows
 
 abbrev pub IsBehindAll : Spot → Type 0
-IsBehindAll at_stage = ⊥
+IsBehindAll (at_stage stage) = ⊥
 IsBehindAll (at_state told) = IsThrough told
 IsBehindAll (at_init told s) = ⊥
 IsBehindAll (at_class told s go) = ⊥
@@ -135,9 +136,9 @@ pub record BreaksFrom (g : Graph) (numbers classes : List ℕ) (from : Spot)
   pub stuck : (line : List ℕ) (q : Spot) → IsRightLine g numbers classes spot line q
       → Begins rest line → ⊥
 
--- of a stage's lines those before are right, and the next isn't
-pub record BreaksInStage (g : Graph) (before rest : List ℕ) : Type 0 where
+-- of the lines of the stage with this number those before are right, and the next isn't
+pub record BreaksInStage (stage : ℕ) (g : Graph) (before rest : List ℕ) : Type 0 where
   pub numbers : List ℕ
   pub classes : List ℕ
   pub numbers_of : AreNumbersOf g numbers classes
-  pub breaks : BreaksFrom g numbers classes at_stage before rest
+  pub breaks : BreaksFrom g numbers classes (at_stage stage) before rest

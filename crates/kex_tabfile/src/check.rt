@@ -1,6 +1,6 @@
 // Checks table files.
 
-ghost use Rattle.std.specs.Prelude.{◌≡◌, ◌≤◌, ℕ, IfErr, IfOk, List, OnOk, length, map};
+ghost use Rattle.std.specs.Prelude.{◌≡◌, ◌^◌, ◌<◌, ◌≤◌, ℕ, IfErr, IfOk, List, OnOk, length, map};
 ghost use Rattle.kex_stage.specs.Plans.{AllTell, machine_of};
 ghost use Rattle.kex_stage.specs.declared.plan.Telling.TheVariants as telling;
 ghost use Rattle.kex_tabfile.specs.Checking.{BreaksEnd, BreaksStages};
@@ -16,7 +16,8 @@ use crate::refusal::TableRefusal;
 use crate::stage::take_stage;
 use kex_compile::machines;
 use kex_machine::Trimmed;
-use kex_stage::plan::Plan;
+use kex_stage::common::Common;
+use kex_stage::plan::{Plan, Telling};
 use std::alloc::Global;
 
 /// How many bytes a table file may have.
@@ -25,21 +26,26 @@ pub const MOST_BYTES: u32 = 268_435_456;
 // The plans of machines, by the lines that come next.
 fn take_stages(
     alloc: Global,
-    machines: Vec<Trimmed>,
+    machines: Vec<Common<Trimmed>>,
     reader: &mut TableReader,
 ) -> Result<Vec<Plan>, TableRefusal>
+    requires few { length machines.items < 2 ^ 32 }
     ensures machines { IfOk result (λ plans. map machine_of plans.items ≡ machines.items) }
     ensures tables { IfOk result (λ plans. EachHasTable plans.items) }
     ensures agreed { IfOk result (λ plans. AllTell telling.Agreed plans.items) }
     ensures right { IfOk result (λ plans. (bytes : List ℕ)
-        × AreStageTexts machines.items (map goes_in plans.items) bytes
+        × AreStageTexts 1 machines.items (map goes_in plans.items) bytes
         × ReadsBytes reader.old bytes reader.new) }
     ensures bad { IfErr result (λ e. BreaksStages machines.items reader.old e) }
 {
     let mut plans = Vec::with_capacity(alloc, machines.len())?;
+    let mut stage = 0;
     'machines: for machine in machines {
-        let table = take_stage(alloc, &machine, reader)?;
-        plans.push(Plan::new(machine, Some(table)))?;
+        stage += 1;
+        let table = take_stage(alloc, machine.get(), stage, reader)?;
+        let table = Common::new(alloc, table)?;
+        let plan = Plan::sharing(machine, Some(table), Telling::Agreed);
+        plans.push(plan)?;
     }
     Ok(plans)
 }

@@ -3,7 +3,6 @@
 ghost use Rattle.std.specs.Prelude.{◌≡◌, ◌<◌, ◌^◌, IfOk, length};
 
 use kex_code::memory::Memory;
-use kex_compile::compiled::shorten_all;
 use kex_stage::plan::Plan;
 use std::alloc::Global;
 use std::marker::Model;
@@ -46,7 +45,11 @@ impl Checked {
     pub fn shorten(self, alloc: Global) -> Result<Checked, Memory>
         ensures { IfOk result (λ c. c ≡ self) }
     {
-        let stages = shorten_all(alloc, self.stages)?;
+        let mut stages = Vec::with_capacity(alloc, self.stages.len())?;
+        'plans: for plan in self.stages {
+            let plan = plan.shorten(alloc)?;
+            stages.push(plan)?;
+        }
         Ok(Checked { stages })
     }
 }

@@ -29,22 +29,23 @@ use std::alloc::Global;
 /// How many states a stage of a table file may have.
 pub(crate) const MOST_STATES: u32 = 1_048_576;
 
-// Reads a stage's own line, and says how many states there are.
+// Reads the own line of the stage with this number, and says how many states there are.
 fn take_stage_line(
     machine: &Trimmed,
+    stage: u32,
     partition: &Partition,
     reader: &mut TableReader,
     line: &mut Vec<u8>,
 ) -> Result<u32, TableRefusal>
     ensures right { IfOk result (λ n. (0 < n) × (n ≤ most_table_states)
         × ReadsBytes reader.old
-        (stage_line machine.now.stage (class_count partition.now) n) reader.new) }
+        (stage_line stage (class_count partition.now) n) reader.new) }
     ensures bad { IfErr result (λ e. (numbers : List ℕ) (classes : List ℕ)
         → class_count classes ≡ class_count partition.now
-        → BreaksReading machine.now numbers classes reader.old at_stage e) }
+        → BreaksReading machine.now numbers classes reader.old (at_stage stage) e) }
 {
     line.clear();
-    push_stage_front(machine.machine().stage(), partition.classes(), line)?;
+    push_stage_front(stage, partition.classes(), line)?;
     let Some(states) = reader.number(line.len(), MOST_STATES) else {
         return Err(reader.bad_line());
     };
@@ -90,22 +91,23 @@ fn take_states<'m>(
     Ok(rows)
 }
 
-/// The table of a machine, by the lines that come next.
+/// The table of the machine of the stage with this number, by the lines that come next.
 pub(crate) fn take_stage(
     alloc: Global,
     machine: &Trimmed,
+    stage: u32,
     reader: &mut TableReader,
 ) -> Result<Table, TableRefusal>
     ensures table { IfOk result (λ t. IsTableOf machine.now t) }
-    ensures right { IfOk result (λ t. ReadsStage machine.now (goes_of t.states) reader.old
-        reader.new) }
-    ensures bad { IfErr result (λ e. BreaksStage machine.now reader.old e) }
+    ensures right { IfOk result (λ t. ReadsStage stage machine.now (goes_of t.states)
+        reader.old reader.new) }
+    ensures bad { IfErr result (λ e. BreaksStage stage machine.now reader.old e) }
 {
     let _nodes = machine.nodes();
     let partition = machine.partition();
     let mut line = Vec::new(alloc);
     let numbers = number_places(alloc, machine)?;
-    let states = take_stage_line(machine, partition, reader, &mut line)?;
+    let states = take_stage_line(machine, stage, partition, reader, &mut line)?;
     let mut workspace = Workspace::new(alloc, machine)?;
     let (tree, initial) = PathTree::start(alloc, machine)?;
     let mut targets = Targets::new(alloc);

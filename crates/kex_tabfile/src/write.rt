@@ -1,6 +1,6 @@
 // Writes table files.
 
-ghost use Rattle.std.specs.Prelude.{◌≡◌, ℕ, ◌<◌, ◌≤◌, List, ◌++◌, OnOk, length, map};
+ghost use Rattle.std.specs.Prelude.{◌≡◌, ℕ, ◌^◌, ◌<◌, ◌≤◌, List, ◌++◌, OnOk, length, map};
 ghost use Rattle.kex_determine.specs.Determined.{IsDetermined};
 ghost use Rattle.kex_stage.specs.Plans.{machine_of};
 ghost use Rattle.kex_tabfile.specs.TableFiles.{ArePlansOf, AreStageTexts, IsTableFile};
@@ -71,19 +71,19 @@ fn write_states<'m>(
     Ok(())
 }
 
-// Writes the lines of a stage.
+// Writes the lines of the stage with this number.
 fn write_stage(
     alloc: Global,
     machine: &Trimmed,
+    stage: u32,
     table: &Table,
     out: &mut Vec<u8>,
 ) -> Result<(), Memory>
     requires determined { IsDetermined machine.now table.now }
     requires few { length table.now.states ≤ most_table_states }
     ensures { OnOk result ((bytes : List ℕ) × (out.new.items ≡ out.old.items ++ bytes)
-        × IsStageText machine.now (goes_of table.now.states) bytes) }
+        × IsStageText stage machine.now (goes_of table.now.states) bytes) }
 {
-    let stage = machine.machine().stage();
     push_stage_front(stage, table.partition().classes(), out)?;
     push_stage_rest(table.states().len() as u32, out)?;
     let mut trees = StateTrees::new(alloc, machine)?;
@@ -92,13 +92,14 @@ fn write_stage(
 
 // Writes the lines of all stages.
 fn write_stages(alloc: Global, stages: &[Plan], out: &mut Vec<u8>) -> Result<(), Memory>
-    requires { EachDetermined stages.now }
+    requires determined { EachDetermined stages.now }
+    requires few { length stages.now < 2 ^ 32 }
     ensures { OnOk result ((lines : List ℕ) × (out.new.items ≡ out.old.items ++ lines)
-        × AreStageTexts (map machine_of stages.now) (map goes_in stages.now) lines) }
+        × AreStageTexts 1 (map machine_of stages.now) (map goes_in stages.now) lines) }
 {
-    for plan in stages {
+    'plans: for (i, plan) in stages.iter().enumerate() {
         if let Some(table) = plan.table() {
-            write_stage(alloc, plan.machine(), table, out)?;
+            write_stage(alloc, plan.machine(), i as u32 + 1, table, out)?;
         }
     }
     Ok(())

@@ -182,17 +182,17 @@ module _ (P : Grammar) (limit root : ℕ) (m : Graph) (c : Carries P root m) whe
 
 -- the machines of a program's stages answer as its stages do
 module _ (P : Grammar) (mode : Mode) (limit : ℕ) where
-  pub carried : (i k : ℕ) (rs : List ℕ) (ms : List Graph) (w : List ℕ) (e : Bool) (text : List ℕ) (r : Option model.Report) → AreStages P k rs ms → Pipeline (λ m v d a. MachineGives mode limit m v d a) i ms w e text r → Pipeline (λ root v d a. StageGives mode P limit root v d a) i rs w e text r
-  carried i k [] [] w e text r h x = x
-  carried i k (root ∷ rs) (m ∷ ms) w e text r h (a, rest, gives, others, is) = (a, rest, to_stage P limit root m h.0.carries mode w e a gives, carried (suc i) (suc k) rs ms a.text a.ended text rest h.1 others, is)
-  carried i k [] (m ∷ ms) w e text r h x = absurd h
-  carried i k (root ∷ rs) [] w e text r h x = absurd h
+  pub carried : (i : ℕ) (rs : List ℕ) (ms : List Graph) (w : List ℕ) (e : Bool) (text : List ℕ) (r : Option model.Report) → AreStages P rs ms → Pipeline (λ m v d a. MachineGives mode limit m v d a) i ms w e text r → Pipeline (λ root v d a. StageGives mode P limit root v d a) i rs w e text r
+  carried i [] [] w e text r h x = x
+  carried i (root ∷ rs) (m ∷ ms) w e text r h (a, rest, gives, others, is) = (a, rest, to_stage P limit root m h.0.carries mode w e a gives, carried (suc i) rs ms a.text a.ended text rest h.1 others, is)
+  carried i [] (m ∷ ms) w e text r h x = absurd h
+  carried i (root ∷ rs) [] w e text r h x = absurd h
 
-  pub carried-back : (i k : ℕ) (rs : List ℕ) (ms : List Graph) (w : List ℕ) (e : Bool) (text : List ℕ) (r : Option model.Report) → AreStages P k rs ms → Pipeline (λ root v d a. StageGives mode P limit root v d a) i rs w e text r → Pipeline (λ m v d a. MachineGives mode limit m v d a) i ms w e text r
-  carried-back i k [] [] w e text r h x = x
-  carried-back i k (root ∷ rs) (m ∷ ms) w e text r h (a, rest, gives, others, is) = (a, rest, to_machine P limit root m h.0.carries mode w e a gives, carried-back (suc i) (suc k) rs ms a.text a.ended text rest h.1 others, is)
-  carried-back i k [] (m ∷ ms) w e text r h x = absurd h
-  carried-back i k (root ∷ rs) [] w e text r h x = absurd h
+  pub carried-back : (i : ℕ) (rs : List ℕ) (ms : List Graph) (w : List ℕ) (e : Bool) (text : List ℕ) (r : Option model.Report) → AreStages P rs ms → Pipeline (λ root v d a. StageGives mode P limit root v d a) i rs w e text r → Pipeline (λ m v d a. MachineGives mode limit m v d a) i ms w e text r
+  carried-back i [] [] w e text r h x = x
+  carried-back i (root ∷ rs) (m ∷ ms) w e text r h (a, rest, gives, others, is) = (a, rest, to_machine P limit root m h.0.carries mode w e a gives, carried-back (suc i) rs ms a.text a.ended text rest h.1 others, is)
+  carried-back i [] (m ∷ ms) w e text r h x = absurd h
+  carried-back i (root ∷ rs) [] w e text r h x = absurd h
 
 -- a run of stages that work by the same
 pub ran_as : (limit : ℕ) (ts us : List Teller) (block : ℕ) (source sink : StreamChange) (s : Status) → ts ≡ us → Ran (NodesSay (stage_plans limit ts)) block source sink s → Ran (NodesSay (stage_plans limit us)) block source sink s
@@ -226,20 +226,20 @@ module _ (states : ℕ) (optimal : Bool) (limit : ℕ) where
       (λ w e said h. ((let n = as-many-plans (asked_telling (limits_of (running states optimal))) limit ms in omega (arith, n, some)), by_plans 1 ms w e said.text (report_as said.report) h.1))
       block source sink s r
 
-as-many : (P : Grammar) (k : ℕ) (rs : List ℕ) (ms : List Graph) → AreStages P k rs ms → length ms ≡ length rs
-as-many P k [] [] h = refl
-as-many P k (root ∷ rs) (m ∷ ms) h = ap (λ n. suc n) (as-many P (suc k) rs ms h.1)
-as-many P k [] (m ∷ ms) h = absurd h
-as-many P k (root ∷ rs) [] h = absurd h
+as-many : (P : Grammar) (rs : List ℕ) (ms : List Graph) → AreStages P rs ms → length ms ≡ length rs
+as-many P [] [] h = refl
+as-many P (root ∷ rs) (m ∷ ms) h = ap (λ n. suc n) (as-many P rs ms h.1)
+as-many P [] (m ∷ ms) h = absurd h
+as-many P (root ∷ rs) [] h = absurd h
 
 not-empty : {A : Type 0} (xs : List A) (x : A) → IsAmong xs x → 0 < length xs
 not-empty [] x h = absurd h
 not-empty (y ∷ xs) x h = omega arith
 
 -- a program has a stage
-pub some-stage : (limits : Limits) (text : List ℕ) (P : Grammar) (ms : List Graph) → Accepts limits text P → AreStages P 1 (roots_of P) ms → 0 < length ms
+pub some-stage : (limits : Limits) (text : List ℕ) (P : Grammar) (ms : List Graph) → Accepts limits text P → AreStages P (roots_of P) ms → 0 < length ms
 some-stage limits text P ms accepts stages =
-    let n = as-many P 1 (roots_of P) ms stages in
+    let n = as-many P (roots_of P) ms stages in
     let m = length-map P.stages (λ s. root_of P s.name) in
     let some = not-empty P.stages accepts.ruled.begins.0 accepts.ruled.begins.1 in
     omega arith
@@ -250,7 +250,7 @@ some-machine limits text plans p = some-stage limits text p.program plans.stages
 -- a program of one stage has one machine
 pub one-machine : (limits : Limits) (text : List ℕ) (plans : Plans) → IsCompiled limits text plans → limits.one_stage ≡ true → length plans.stages ≡ 1
 one-machine limits text plans p asked =
-    let n = as-many p.program 1 (roots_of p.program) plans.stages p.plans_of.stages in
+    let n = as-many p.program (roots_of p.program) plans.stages p.plans_of.stages in
     let m = length-map p.program.stages (λ s. root_of p.program s.name) in
     let some = some-machine limits text plans p in
     let few = p.accepts.one_stage asked in
@@ -346,8 +346,8 @@ served mode name reach texts reads plans source sink s h r =
       program = p.program;
       works = p.accepts;
       performs = ran_alike (MachinesSay mode limit plans.stages) (SaysBy mode p.program limit)
-          (λ w e said k. carried p.program mode limit 1 1 (roots_of p.program) plans.stages w e said.text (report_as said.report) p.plans_of.stages k.1)
-          (λ w e said k. (some-machine (limits_of mode) h.text plans p, carried-back p.program mode limit 1 1 (roots_of p.program) plans.stages w e said.text (report_as said.report) p.plans_of.stages k))
+          (λ w e said k. carried p.program mode limit 1 (roots_of p.program) plans.stages w e said.text (report_as said.report) p.plans_of.stages k.1)
+          (λ w e said k. (some-machine (limits_of mode) h.text plans p, carried-back p.program mode limit 1 (roots_of p.program) plans.stages w e said.text (report_as said.report) p.plans_of.stages k))
           (last_given reach.block reads) source sink s r;
     }
     )
@@ -355,7 +355,7 @@ served mode name reach texts reads plans source sink s h r =
 -- the counts of the plans are those of the program
 counted : (limits : Limits) (text : List ℕ) (plans : Plans) (p : IsCompiled limits text plans) (Q : List ℕ → Type 0) → limits.tables ≡ true → Q (counts_line (record { stages = length plans.stages; places = plans.places; states = plans.states })) → Counted p.program Q
 counted limits text plans p Q asked q =
-    let n = as-many p.program 1 (roots_of p.program) plans.stages p.plans_of.stages in
+    let n = as-many p.program (roots_of p.program) plans.stages p.plans_of.stages in
     let m = length-map p.program.stages (λ s. root_of p.program s.name) in
     let same : length plans.stages ≡ length p.program.stages = n ∙ m in
     record {
@@ -393,7 +393,7 @@ tried lines block rings workers texts reads plans counts source sink s p sums l 
     summed : AreTrialCounts (Answered p.program most_input) lines counts
     summed = record {
       said = sums.said;
-      is_said = carried p.program (running 4096 false) most_input 1 1 (roots_of p.program) plans.stages (made_lines lines) true sums.said.text (report_as sums.said.report) p.plans_of.stages
+      is_said = carried p.program (running 4096 false) most_input 1 (roots_of p.program) plans.stages (made_lines lines) true sums.said.text (report_as sums.said.report) p.plans_of.stages
           (by_machines 4096 false most_input 1 plans.stages (made_lines lines) true sums.said.text (report_as sums.said.report) sums.is_said.1);
       lines_of = sums.lines_of;
       made = sums.made;

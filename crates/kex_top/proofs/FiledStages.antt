@@ -25,8 +25,8 @@ use Rattle.kex_top.specs.Commands.{Filed}
 use Rattle.kex_top.specs.Refusals.{HoldsProgram}
 
 -- a stage has no more states in its table than it has
-few-states : (P : Grammar) (root i n : ℕ) (m : Graph) (t : Transducer) → IsStage P root i m → IsDetermined m t → (HasMoreStates (moves P) (start_of P root) n → ⊥) → length t.states ≤ n
-few-states P root i n m t s d few =
+few-states : (P : Grammar) (root n : ℕ) (m : Graph) (t : Transducer) → IsStage P root m → IsDetermined m t → (HasMoreStates (moves P) (start_of P root) n → ⊥) → length t.states ≤ n
+few-states P root n m t s d few =
     let count = d.rows.count in
     let more : suc n ≤ length t.states → ⊥ = λ lt. few ((same_states P root m s.kept n).more.1 (d.shapes, omega (arith, lt, count), d.different, d.each)) in
     let below = lt_of_not-le more in omega (arith, below)
@@ -44,26 +44,26 @@ told-agreed : (limits : Limits) → limits.optimal ≡ false → asked_telling l
 told-agreed limits agreed = ap (λ b. if b then telling.Best else telling.Agreed) agreed
 
 module _ (limits : Limits) (P : Grammar) (asked : limits.tables ≡ true) (agreed : limits.optimal ≡ false) where
-  own-table : (root i : ℕ) (m : Graph) (o : Option Transducer) (k : Telling) → IsStage P root i m → (HasTooManyStates limits P root → ⊥) → HasTableIf true telling.Agreed m o → HasOwnTable limits.states (record { machine = m; table = o; telling = k })
-  own-table root i m None k s few h = absurd h
-  own-table root i m (Some t) k s few h = record { table = t; is = refl; of_machine = h.0; determined = h.1; few = few-states P root i limits.states m t s h.1 few }
+  own-table : (root : ℕ) (m : Graph) (o : Option Transducer) (k : Telling) → IsStage P root m → (HasTooManyStates limits P root → ⊥) → HasTableIf true telling.Agreed m o → HasOwnTable limits.states (record { machine = m; table = o; telling = k })
+  own-table root m None k s few h = absurd h
+  own-table root m (Some t) k s few h = record { table = t; is = refl; of_machine = h.0; determined = h.1; few = few-states P root limits.states m t s h.1 few }
 
-  pub own-tables : (i : ℕ) (rs : List ℕ) (ps : List Planned) → ((r : ℕ) → IsAmong rs r → HasTooManyStates limits P r → ⊥) → AreStages P i rs (map machine_of ps) → AreTabled limits (map machine_of ps) (map table_of ps) → (p : Planned) → IsAmong ps p → HasOwnTable limits.states p
-  own-tables i rs [] few s h p a = absurd a
-  own-tables i [] (q ∷ ps) few s h p a = absurd s
-  own-tables i (r ∷ rs) (q ∷ ps) few s h p (inl same) = subst (λ z. HasOwnTable limits.states z) same (own-table r i q.machine q.table q.telling s.0 (few r (inl refl)) (subst (λ k. HasTableIf true k q.machine q.table) (told-agreed limits agreed) (subst (λ b. HasTableIf b (asked_telling limits) q.machine q.table) asked h.0)))
-  own-tables i (r ∷ rs) (q ∷ ps) few s h p (inr more) = own-tables (suc i) rs ps (λ z among. few z (inr among)) s.1 h.1 p more
+  pub own-tables : (rs : List ℕ) (ps : List Planned) → ((r : ℕ) → IsAmong rs r → HasTooManyStates limits P r → ⊥) → AreStages P rs (map machine_of ps) → AreTabled limits (map machine_of ps) (map table_of ps) → (p : Planned) → IsAmong ps p → HasOwnTable limits.states p
+  own-tables rs [] few s h p a = absurd a
+  own-tables [] (q ∷ ps) few s h p a = absurd s
+  own-tables (r ∷ rs) (q ∷ ps) few s h p (inl same) = subst (λ z. HasOwnTable limits.states z) same (own-table r q.machine q.table q.telling s.0 (few r (inl refl)) (subst (λ k. HasTableIf true k q.machine q.table) (told-agreed limits agreed) (subst (λ b. HasTableIf b (asked_telling limits) q.machine q.table) asked h.0)))
+  own-tables (r ∷ rs) (q ∷ ps) few s h p (inr more) = own-tables rs ps (λ z among. few z (inr among)) s.1 h.1 p more
 
 -- the plans of a text, with their tables
 module _ (limits : Limits) (text : List ℕ) (plans : Plans) (ps : List Planned) (asked : limits.tables ≡ true) (agreed : limits.optimal ≡ false) (c : IsCompiled limits text plans) (machines : map machine_of ps ≡ plans.stages) (tables : map table_of ps ≡ plans.tables) where
-  are-stages : AreStages c.program 1 (roots_of c.program) (map machine_of ps)
-  are-stages = subst (λ z. AreStages c.program 1 (roots_of c.program) z) (sym machines) c.plans_of.stages
+  are-stages : AreStages c.program (roots_of c.program) (map machine_of ps)
+  are-stages = subst (λ z. AreStages c.program (roots_of c.program) z) (sym machines) c.plans_of.stages
 
   pub has-machines : HasMachines text (map machine_of ps)
   has-machines = record { program = c.program; spells = c.accepts.spells; ruled = c.accepts.ruled; stages = are-stages }
 
   pub has-tables : (p : Planned) → IsAmong ps p → HasOwnTable limits.states p
-  has-tables = own-tables limits c.program asked agreed 1 (roots_of c.program) ps (c.accepts.states asked) are-stages
+  has-tables = own-tables limits c.program asked agreed (roots_of c.program) ps (c.accepts.states asked) are-stages
       (subst (λ z. AreTabled limits (map machine_of ps) z) (sym tables) (subst (λ z. AreTabled limits z plans.tables) (sym machines) c.plans_of.tables))
 
   pub are-plans : limits.states ≤ most_table_states → ArePlansOf text ps
@@ -73,11 +73,11 @@ module _ (limits : Limits) (text : List ℕ) (plans : Plans) (ps : List Planned)
   }
 
 -- each stage of a program in a file can run
-all-run : (P : Grammar) (i : ℕ) (rs : List ℕ) (ms : List Graph) → AreStages P i rs ms → (root : ℕ) → IsAmong rs root → CanRun P root
-all-run P i [] ms s root a = absurd a
-all-run P i (r ∷ rs) [] s root a = absurd s
-all-run P i (r ∷ rs) (m ∷ ms) s root (inl same) = subst (λ z. CanRun P z) same s.0.can_run
-all-run P i (r ∷ rs) (m ∷ ms) s root (inr more) = all-run P (suc i) rs ms s.1 root more
+all-run : (P : Grammar) (rs : List ℕ) (ms : List Graph) → AreStages P rs ms → (root : ℕ) → IsAmong rs root → CanRun P root
+all-run P [] ms s root a = absurd a
+all-run P (r ∷ rs) [] s root a = absurd s
+all-run P (r ∷ rs) (m ∷ ms) s root (inl same) = subst (λ z. CanRun P z) same s.0.can_run
+all-run P (r ∷ rs) (m ∷ ms) s root (inr more) = all-run P rs ms s.1 root more
 
 -- a good file holds a program of its text
 pub holds-program : (file : List ℕ) (ps : List Planned) → length file ≤ most_bytes → (good : IsGood file ps) → HoldsProgram file good.machines.program
@@ -90,7 +90,7 @@ holds-program file ps short good =
       accepts = record {
         spells = m.spells;
         ruled = m.ruled;
-        stages = all-run m.program 1 (roots_of m.program) (map machine_of ps) m.stages;
+        stages = all-run m.program (roots_of m.program) (map machine_of ps) m.stages;
         one_stage = λ one. absurd (false≢true one);
         states = λ tabled. absurd (false≢true tabled);
         pairs = λ best. absurd (false≢true best);

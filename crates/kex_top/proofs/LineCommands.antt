@@ -66,9 +66,9 @@ line_served name states limit workers texts reads plans source sink s h r =
       works = p.accepts;
       performs = lines_alike (NodesSayLines (agreed_plans limit ms)) (SaysLines P limit)
           (λ w e said k. lines_say_alike (λ q v d a. Gives q v d a) (λ root v d a. StageAnswers P root limit v d a) (agreed_plans limit ms) roots
-          (λ l t o x. carried P (running states false) limit 1 1 roots ms l true t o p.plans_of.stages (by_machines states false limit 1 ms l true t o x)) w e said k)
+          (λ l t o x. carried P (running states false) limit 1 roots ms l true t o p.plans_of.stages (by_machines states false limit 1 ms l true t o x)) w e said k)
           (λ w e said k. lines_say_alike (λ root v d a. StageAnswers P root limit v d a) (λ q v d a. Gives q v d a) roots (agreed_plans limit ms)
-          (λ l t o x. by_plans states false limit 1 ms l true t o (carried-back P (running states false) limit 1 1 roots ms l true t o p.plans_of.stages x)) w e said k)
+          (λ l t o x. by_plans states false limit 1 ms l true t o (carried-back P (running states false) limit 1 roots ms l true t o p.plans_of.stages x)) w e said k)
           (last_given line_block reads) source sink s r;
     }
     )

@@ -61,8 +61,8 @@ executed name reach texts reads ms source sink s h r =
       program = P;
       works = h.holds;
       performs = ran_alike (NodesSay (agreed_plans limit ms)) (Answered P limit)
-          (λ w e said k. carried P (running 0 false) limit 1 1 (roots_of P) ms w e said.text (report_as said.report) h.stages (by_machines 0 false limit 1 ms w e said.text (report_as said.report) k.1))
-          (λ w e said k. (omega (arith, some, long), by_plans 0 false limit 1 ms w e said.text (report_as said.report) (carried-back P (running 0 false) limit 1 1 (roots_of P) ms w e said.text (report_as said.report) h.stages k)))
+          (λ w e said k. carried P (running 0 false) limit 1 (roots_of P) ms w e said.text (report_as said.report) h.stages (by_machines 0 false limit 1 ms w e said.text (report_as said.report) k.1))
+          (λ w e said k. (omega (arith, some, long), by_plans 0 false limit 1 ms w e said.text (report_as said.report) (carried-back P (running 0 false) limit 1 (roots_of P) ms w e said.text (report_as said.report) h.stages k)))
           (last_given reach.block reads) source sink s r;
     }
     )

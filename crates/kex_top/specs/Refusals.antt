@@ -146,7 +146,7 @@ pub record HoldsStages (told : ShelfText) (machines : List Graph) : Type 0 where
   pub is_told : IsTold told file
   pub program : Grammar
   pub holds : HoldsProgram file program
-  pub stages : AreStages program 1 (roots_of program) machines
+  pub stages : AreStages program (roots_of program) machines
 
 -- Nothing was taken, or nothing to begin with: where that is refused, it is for this.
 abbrev pub IsUntaken : (Refusal → Type 0) → StartError → Type 0

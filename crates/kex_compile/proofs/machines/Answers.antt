@@ -38,7 +38,7 @@ returns-clause-machines c =
       program = P;
       spells = c.in_ok-program.ensures.read;
       ruled = subst (λ z. IsRuled z) c.in_ok-ruled.ensures.same c.in_ok-ruled.ensures.ruled;
-      stages = subst (λ (z : List Graph). AreStages P 1 (roots_of P) z) (sym c.into_machines.ensures.same) all.stages;
+      stages = subst (λ (z : List Graph). AreStages P (roots_of P) z) (sym c.in_ok-machines.ensures.same) all.stages;
     }
 
 pub lower_stages-requires : goal.lower_stages-requires

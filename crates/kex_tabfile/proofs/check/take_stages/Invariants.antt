@@ -1,4 +1,4 @@
-use Rattle.std.proofs.Common.{◌≡◌, ℕ, ◌++◌, List, map}
+use Rattle.std.proofs.Common.{◌≡◌, ℕ, ◌++◌, List, length, map}
 use Rattle.kex_stage.specs.Plans.{AllTell, machine_of}
 use Rattle.kex_stage.specs.declared.plan.Telling.TheVariants as telling
 use Rattle.kex_tabfile.specs.Readers.{ReadsBytes}
@@ -7,9 +7,10 @@ use Rattle.kex_tabfile.proofs.check.take_stages.Given as goal
 
 abbrev pub invariant-machines : goal.invariant-machines
 invariant-machines l = record {
+  stage : l.stage ≡ length l.yielded;
   split : l.fn.machines.items ≡ l.yielded ++ l.machine-iterator.rest.items;
   made : map machine_of l.plans.items ≡ l.yielded;
   tables : EachHasTable l.plans.items;
   agreed : AllTell telling.Agreed l.plans.items;
-  so_far : (bytes : List ℕ) × AreStageTexts l.yielded (map goes_in l.plans.items) bytes × ReadsBytes l.fn.reader bytes l.reader;
+  so_far : (bytes : List ℕ) × AreStageTexts 1 l.yielded (map goes_in l.plans.items) bytes × ReadsBytes l.fn.reader bytes l.reader;
 }

@@ -25,7 +25,7 @@ returns-in_err-states-clause-bad c =
     let classes = c.partition-partition.result.now in
     let e = c.in_err-states.field-0.0 in
     let of : AreNumbersOf g numbers classes = record { numbered = c.in_ok-numbers.ensures; classed = c.partition-partition.ensures } in
-    if_err c.from_residual-in_err-states.result e _ c.from_residual-in_err-states.ensures.1 (stage_breaks g numbers classes of c.args.reader.now e (c.in_err-states.ensures.bad numbers classes refl))
+    if_err c.from_residual-in_err-states.result e _ c.from_residual-in_err-states.ensures.1 (stage_breaks c.args.stage g numbers classes of c.args.reader.now e (c.in_err-states.ensures.bad numbers classes refl))
 
 pub returns-in_err-meet-clause-bad : goal.returns-in_err-meet-clause-bad
 returns-in_err-meet-clause-bad c = if_err c.from_residual-in_err-meet.result Memory (λ e. BreaksStage c.args.machine.now c.args.reader.now e) c.from_residual-in_err-meet.ensures.1 tt
@@ -41,7 +41,7 @@ pub take_states-requires-clause-begun : goal.take_states-requires-clause-begun
 take_states-requires-clause-begun c =
     let at = (goal.at.take_states-requires-clause-begun c).In_ok-meet in
     let r = c.in_ok-states.ensures.right in
-    (told_first c.in_ok-states.states (shape_of c.in_ok-tree.ensures.first.0.tree), refl, stands_first c.args.machine.now c.in_ok-numbers.numbers.items c.partition-partition.result.now c.args.reader.now c.take_stage_line.new.reader c.in_ok-states.states c.in_ok-tree.ensures.first.0 (first_at at) r.0 r.1 r.2 c.meet.new.self (known_at at))
+    (told_first c.in_ok-states.states (shape_of c.in_ok-tree.ensures.first.0.tree), refl, stands_first c.args.stage c.args.machine.now c.in_ok-numbers.numbers.items c.partition-partition.result.now c.args.reader.now c.take_stage_line.new.reader c.in_ok-states.states c.in_ok-tree.ensures.first.0 (first_at at) r.0 r.1 r.2 c.meet.new.self (known_at at))
 
 pub returns-in_err-rows-clause-bad : goal.returns-in_err-rows-clause-bad
 returns-in_err-rows-clause-bad c =
@@ -52,8 +52,8 @@ returns-in_err-rows-clause-bad c =
     let e = c.in_err-rows.field-0.0 in
     let r = c.in_ok-states.ensures.right in
     let of : AreNumbersOf g numbers classes = record { numbered = c.in_ok-numbers.ensures; classed = c.partition-partition.ensures } in
-    if_err c.from_residual-in_err-rows.result e _ c.from_residual-in_err-rows.ensures.1 (stage_breaks g numbers classes of c.args.reader.now e
-    (states_break g numbers classes c.args.reader.now c.take_stage_line.new.reader c.in_ok-states.states c.in_ok-tree.ensures.first.0 (first_at at) r.0 r.1 r.2 c.meet.new.self (known_at at) e c.in_err-rows.ensures.bad))
+    if_err c.from_residual-in_err-rows.result e _ c.from_residual-in_err-rows.ensures.1 (stage_breaks c.args.stage g numbers classes of c.args.reader.now e
+    (states_break c.args.stage g numbers classes c.args.reader.now c.take_stage_line.new.reader c.in_ok-states.states c.in_ok-tree.ensures.first.0 (first_at at) r.0 r.1 r.2 c.meet.new.self (known_at at) e c.in_err-rows.ensures.bad))
 
 -- the table of the rows that were read
 module _ (c : In_ok-rows) where
@@ -81,10 +81,10 @@ module _ (c : In_ok-rows) where
   known : AreTargets g c.meet.new.self (target 0 (shape_of first.tree) ∷ [])
   known = start_known g c.new-targets.result c.meet.new.self c.in_ok-tree.tree c.in_ok-meet.field-0 (shape_of first.tree) c.new-targets.ensures c.in_ok-meet.ensures.yes c.in_ok-meet.ensures.no c.in_ok-tree.ensures.machine c.in_ok-tree.ensures.first.2
 
-  read : ReadsStates g numbers classes c.args.reader.now c.take_states.new.reader c.in_ok-rows.rows.items
+  read : ReadsStates c.args.stage g numbers classes c.args.reader.now c.take_states.new.reader c.in_ok-rows.rows.items
   read =
       let r = c.in_ok-states.ensures.right in
-      reads_states g numbers classes c.args.reader.now c.take_stage_line.new.reader c.in_ok-states.states first is_first r.0 r.1 r.2 c.meet.new.self known c.take_states.new.reader c.in_ok-rows.rows.items c.in_ok-rows.ensures.right
+      reads_states c.args.stage g numbers classes c.args.reader.now c.take_stage_line.new.reader c.in_ok-states.states first is_first r.0 r.1 r.2 c.meet.new.self known c.take_states.new.reader c.in_ok-rows.rows.items c.in_ok-rows.ensures.right
 
   well : IsTable made
   well = is_well_formed g classes c.partition-partition.ensures read.end read.told read.through c.in_ok-tree.initial begins c.in_ok-rows.rows.items read.same read.ends (omega (arith, read.few))
@@ -92,7 +92,7 @@ module _ (c : In_ok-rows) where
   table : IsTableOf g made
   table = is_table_of g classes c.partition-partition.ensures read.end read.told read.through c.in_ok-tree.initial begins c.in_ok-rows.rows.items read.same read.ends (is_trim g c.nodes-nodes.ensures.trimmed)
 
-  text : IsStageText g (goes_of c.in_ok-rows.rows.items) read.checks.bytes
+  text : IsStageText c.args.stage g (goes_of c.in_ok-rows.rows.items) read.checks.bytes
   text = record {
     numbers = numbers;
     classes = classes;
@@ -119,4 +119,4 @@ pub returns-clause-right : goal.returns-clause-right
 returns-clause-right c =
     let top = (goal.at.returns-clause-right c).In_ok-rows in
     let rows : c.new-3.result.states ≡ c.in_ok-rows.rows.items = ap (λ t. t.states) c.new-3.ensures in
-    ((read top).checks.bytes, subst (λ z. IsStageText c.args.machine.now (goes_of z) (read top).checks.bytes) (sym rows) (text top), (read top).checks.reads)
+    ((read top).checks.bytes, subst (λ z. IsStageText c.args.stage c.args.machine.now (goes_of z) (read top).checks.bytes) (sym rows) (text top), (read top).checks.reads)

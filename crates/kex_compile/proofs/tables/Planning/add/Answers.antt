@@ -1,4 +1,5 @@
 use Rattle.std.proofs.Common.{◌++◌, ◌∷◌, [], sym, ap, ◌∙◌, subst}
+use Rattle.std.specs.Prelude.{OnOk}
 use Rattle.kex_machine.specs.Nodes.{Graph}
 use Rattle.kex_compile.specs.Stages.{HasMoreNodes, HasTable, HavePlansOrFirst, IsUntabledBy, Plans}
 use Rattle.kex_compile.proofs.StageTables.{first_more, known_more, on_ok, planned_more}
@@ -11,7 +12,7 @@ returns-then-is_some-clause-plans c = λ ms number so_far.
     let now = c.args.self.now in
     on_ok c.keep_to_states.result (HasMoreNodes limits m → ⊥) (HavePlansOrFirst limits (ms ++ m ∷ []) now.too_many_pairs now.compiled)
     (λ few. known_more limits ms m now.too_many_pairs now.compiled (sym c.is_some.ensures ∙ c.if-is_some.true) few so_far)
-    c.keep_to_states.ensures.few
+    (subst (λ (z : Graph). OnOk c.keep_to_states.result (HasMoreNodes limits z → ⊥)) c.get.ensures c.keep_to_states.ensures.few)
 
 pub returns-in_ok-push-in-Ok-clause-plans : goal.returns-in_ok-push-in-Ok-clause-plans
 returns-in_ok-push-in-Ok-clause-plans c = λ ms number so_far.
