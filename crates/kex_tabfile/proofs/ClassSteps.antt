@@ -1,5 +1,5 @@
 -- How a tree goes on with all bytes of a class alike.
-use Rattle.std.proofs.Common.{◌≡◌, ℕ, ◌+◌, ◌<◌, List, [], ◌∷◌, ◌++◌, Option, Some, None, length, refl, sym, ap, ap₂, subst, ◌∙◌, arith}
+use Rattle.std.proofs.Common.{◌≡◌, ℕ, ◌<◌, List, [], ◌∷◌, ◌++◌, Option, Some, None, length, refl, sym, ap, ap₂, subst, ◌∙◌, arith}
 use Rattle.std.specs.Prelude.{IfSome, MatchOption}
 use Rattle.kex_byteset.specs.Classes.{class_count}
 use Rattle.kex_model.specs.Labelled.{Labelled, tip, fork, labels_of, Shape, shape_of, size_of, Grown}

@@ -1,17 +1,15 @@
 -- What becomes of a file by its parts.
-use Rattle.std.proofs.Common.{◌≡◌, ℕ, ◌+◌, ◌<◌, ◌≤◌, List, [], ◌∷◌, ◌++◌, ◌⊎◌, inl, inr, ⊎_elim, Option, map, refl, sym, ap, subst, ◌∙◌, append_assoc, append-nil}
+use Rattle.std.proofs.Common.{◌≡◌, ℕ, ◌≤◌, List, ◌++◌, inl, inr, Option, sym, ap, subst, ◌∙◌, append_assoc}
 use Rattle.std.specs.Prelude.{length}
-use Rattle.kex_code.specs.Codes.{Begins}
 use Rattle.kex_machine.specs.Nodes.{Graph}
 use Rattle.kex_sst.specs.declared.table.Transition.{Transition}
-use Rattle.kex_stage.specs.Plans.{Planned, machine_of}
 use Rattle.kex_compile.specs.Compiled.{HasMachines, IsRefused}
 use Rattle.kex_compile.specs.declared.limits.Limits.{Limits}
 use Rattle.kex_compile.specs.declared.refusal.CompileRefusal.{CompileRefusal}
 use Rattle.kex_compile.specs.declared.refusal.CompileRefusal.TheVariants as compile
-use Rattle.kex_tabfile.specs.Lines.{name_line, head_text, end_line, line_behind}
+use Rattle.kex_tabfile.specs.Lines.{head_text, end_line, line_behind}
 use Rattle.kex_tabfile.specs.Readers.{ReadSoFar, ReadsBytes, most_bytes}
-use Rattle.kex_tabfile.specs.TableFiles.{AreStageTexts, EachHasTable, IsTableFile, IsGood, BreaksLines, at_end, past_end, IsBadLine, bad_front, bad_line, IsBadHead, IsTableRefused, goes_in, of_text}
+use Rattle.kex_tabfile.specs.TableFiles.{AreStageTexts, IsTableFile, at_end, past_end, IsBadLine, bad_front, bad_line, IsBadHead, IsTableRefused, of_text}
 use Rattle.kex_tabfile.specs.Checking.{BreaksStages, BreaksEnd}
 use Rattle.kex_tabfile.specs.declared.refusal.TableRefusal.{TableRefusal}
 use Rattle.kex_tabfile.specs.declared.refusal.TableRefusal.TheVariants.{TableTooLong, BadTable, Text, Memory}

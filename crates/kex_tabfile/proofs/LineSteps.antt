@@ -1,5 +1,5 @@
 -- Right lines, one after the other.
-use Rattle.std.proofs.Common.{◌≡◌, ℕ, List, [], ◌∷◌, ◌++◌, refl, sym, ap, subst, ◌∙◌, append_assoc, append-nil}
+use Rattle.std.proofs.Common.{◌≡◌, ℕ, List, [], ◌++◌, refl, sym, ap, subst, ◌∙◌, append_assoc, append-nil}
 use Rattle.kex_code.specs.Codes.{Begins}
 use Rattle.kex_machine.specs.Nodes.{Graph}
 use Rattle.kex_tabfile.specs.Lines.{line_behind}

@@ -1,13 +1,13 @@
 -- Places that are met one after the other.
-use Rattle.std.proofs.Common.{◌≡◌, ◌≢◌, ℕ, zero, suc, ◌+◌, ◌<◌, ◌≤◌, List, [], ◌∷◌, ◌++◌, ◌⊎◌, inl, inr, ⊎_elim, Some, length, get_or, set, replicate, refl, sym, ap, subst, ◌∙◌, length-append, arith}
+use Rattle.std.proofs.Common.{◌≡◌, ◌≢◌, ℕ, zero, suc, ◌<◌, ◌≤◌, List, [], ◌∷◌, ◌++◌, ◌⊎◌, inl, inr, ⊎_elim, Some, length, get_or, set, replicate, refl, sym, ap, subst, ◌∙◌, length-append, arith}
 use Rattle.std.specs.Prelude.{slice_get}
 use Rattle.std.proofs.lemmas.Bool.{cases_lt, cases_eq}
 use Rattle.std.proofs.lemmas.List.{length-set, get_or-set_same, get_or-set_other, length-replicate, get_or-replicate}
 use Rattle.std.proofs.lemmas.Option.{slice_get_within, slice_get_read}
 use Rattle.kex_code.specs.Codes.{IsAmong, Different}
-use Rattle.kex_model.proofs.Tables.{get_more, get_last, get_pushed, some_same}
+use Rattle.kex_model.proofs.Tables.{get_pushed}
 use Rattle.kex_model.proofs.DistinctItems.{different_fits, among_get, among-append}
-use Rattle.kex_tabfile.specs.PlaceNumbers.{MeetsPlace, MeetsPlaces, GivesNumbers, IsOrder}
+use Rattle.kex_tabfile.specs.PlaceNumbers.{MeetsPlace, MeetsPlaces, IsOrder}
 
 different_push : (xs : List ℕ) (x : ℕ) → Different xs → (IsAmong xs x → ⊥) → Different (xs ++ x ∷ [])
 different_push [] x d h = ((λ i. i), tt)

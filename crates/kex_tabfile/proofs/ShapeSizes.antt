@@ -3,7 +3,7 @@ use Rattle.std.proofs.Common.{◌≡◌, ℕ, ◌^◌, ◌<◌, ◌≤◌, lengt
 use Rattle.kex_model.specs.Labelled.{Shape, place, parts, size_of}
 use Rattle.kex_machine.specs.Nodes.{Graph}
 use Rattle.kex_machine.specs.Advancing.{EachPlace}
-use Rattle.kex_paths.specs.Nexts.{Outline, IsOfShape, inner_of, places_of}
+use Rattle.kex_paths.specs.Nexts.{Outline, IsOfShape, inner_of}
 use Rattle.kex_paths.specs.Spellings.{IsTreeSound}
 use Rattle.kex_paths.proofs.LeftTrees.{lists_same}
 

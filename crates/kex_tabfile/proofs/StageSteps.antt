@@ -1,5 +1,5 @@
 -- What the lines of a stage tell, one after the other.
-use Rattle.std.proofs.Common.{◌≡◌, ℕ, suc, ◌+◌, ◌<◌, ◌≤◌, List, [], ◌∷◌, ◌++◌, inl, inr, ⊎_elim, Bool, true, false, Option, Some, length, refl, sym, ap, subst, ◌∙◌, length-append, arith}
+use Rattle.std.proofs.Common.{◌≡◌, ℕ, suc, ◌<◌, ◌≤◌, List, [], ◌∷◌, ◌++◌, inl, inr, ⊎_elim, Bool, true, false, Option, Some, length, refl, sym, ap, subst, ◌∙◌, length-append, arith}
 use Rattle.kex_byteset.specs.Classes.{class_count}
 use Rattle.kex_code.specs.Codes.{IsAmong}
 use Rattle.kex_model.specs.Labelled.{Shape, shape_of, Grown}

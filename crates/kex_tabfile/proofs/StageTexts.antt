@@ -1,5 +1,5 @@
 -- The lines of stages, one stage after the other.
-use Rattle.std.proofs.Common.{◌≡◌, ◌+◌, ℕ, suc, List, length, arith, [], ◌∷◌, ◌++◌, Option, inl, inr, ⊎_elim, Some, map, refl, sym, ap, subst, ◌∙◌, append_assoc, append-nil}
+use Rattle.std.proofs.Common.{◌≡◌, ◌+◌, ℕ, suc, List, length, arith, [], ◌∷◌, ◌++◌, Option, inl, inr, Some, refl, sym, ap, subst, ◌∙◌, append_assoc, append-nil}
 use Rattle.kex_code.specs.Codes.{IsAmong}
 use Rattle.kex_machine.specs.Nodes.{Graph}
 use Rattle.kex_sst.specs.declared.table.Transition.{Transition}
@@ -7,10 +7,10 @@ use Rattle.kex_sst.specs.Tables.{Transducer}
 use Rattle.kex_sst.specs.Machines.{IsTableOf}
 use Rattle.kex_stage.specs.Plans.{Planned}
 use Rattle.kex_stage.specs.declared.plan.Telling.TheVariants as telling
-use Rattle.kex_tabfile.specs.Lines.{line_behind, head_text, end_line}
+use Rattle.kex_tabfile.specs.Lines.{line_behind}
 use Rattle.kex_tabfile.specs.Readers.{ReadSoFar, ReadsBytes}
-use Rattle.kex_tabfile.specs.Walks.{IsStageText, BreaksInStage}
-use Rattle.kex_tabfile.specs.TableFiles.{AreStageTexts, EachHasTable, BreaksLines, in_stage}
+use Rattle.kex_tabfile.specs.Walks.{IsStageText}
+use Rattle.kex_tabfile.specs.TableFiles.{AreStageTexts, EachHasTable, in_stage}
 use Rattle.kex_tabfile.specs.Checking.{BreaksStage, BreaksStages}
 use Rattle.kex_tabfile.specs.declared.refusal.TableRefusal.{TableRefusal}
 use Rattle.kex_tabfile.specs.declared.refusal.TableRefusal.TheVariants.{TableTooLong, BadTable, Text, Memory}

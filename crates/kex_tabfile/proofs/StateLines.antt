@@ -1,10 +1,9 @@
 -- The lines of a state, as they are read.
-use Rattle.std.proofs.Common.{◌≡◌, ℕ, suc, ◌+◌, ◌-◌, ◌<◌, ◌≤◌, List, [], ◌∷◌, ◌++◌, Option, Some, None, length, refl, sym, ap, ap₂, subst, ◌∙◌, append_assoc, arith}
+use Rattle.std.proofs.Common.{◌≡◌, ℕ, ◌-◌, ◌<◌, ◌≤◌, List, [], ◌∷◌, ◌++◌, Option, Some, length, refl, sym, ap, ap₂, subst, ◌∙◌, append_assoc, arith}
 use Rattle.std.specs.Prelude.{codes, decimal}
 use Rattle.kex_byteset.specs.Classes.{class_count}
 use Rattle.kex_code.specs.Codes.{Begins, IsAmong}
 use Rattle.kex_model.specs.Labelled.{Shape, shape_of}
-use Rattle.kex_model.proofs.Tables.{some_same}
 use Rattle.kex_machine.specs.Nodes.{Graph, HasClasses}
 use Rattle.kex_sst.specs.declared.table.Transition.{Transition}
 use Rattle.kex_sst.specs.Parts.{Change}

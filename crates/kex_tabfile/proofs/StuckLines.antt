@@ -1,5 +1,5 @@
 -- Which line alone can come at a spot, and so where another breaks.
-use Rattle.std.proofs.Common.{◌≡◌, ℕ, ◌+◌, ◌<◌, ◌≤◌, List, [], ◌∷◌, ◌++◌, ◌⊎◌, inl, inr, ⊎_elim, Option, Some, None, length, refl, sym, ap, ap₂, subst, ◌∙◌, arith}
+use Rattle.std.proofs.Common.{◌≡◌, ℕ, ◌<◌, ◌≤◌, List, ◌⊎◌, inl, inr, ⊎_elim, Option, Some, None, length, refl, sym, ap, ap₂, subst, ◌∙◌, arith}
 use Rattle.kex_byteset.specs.Classes.{class_count}
 use Rattle.kex_code.specs.Codes.{Begins, IsAmong}
 use Rattle.kex_model.specs.Labelled.{Shape, shape_of, Grown}
@@ -8,13 +8,12 @@ use Rattle.kex_machine.specs.Nodes.{Graph, HasClasses}
 use Rattle.kex_sst.specs.declared.parts.Part.{Part}
 use Rattle.kex_sst.specs.declared.table.Transition.{Transition}
 use Rattle.kex_sst.specs.Parts.{Change}
-use Rattle.kex_paths.specs.Nexts.{Outline, HasClass, IsFirstTree, IsNext, IsChange, IsOfShape}
+use Rattle.kex_paths.specs.Nexts.{Outline, HasClass, IsChange, IsOfShape}
 use Rattle.kex_paths.proofs.Sizes.{one_first, one_next}
-use Rattle.kex_paths.proofs.LeftTrees.{lists_same}
 use Rattle.kex_determine.proofs.Transitions.{class_met}
 use Rattle.kex_tabfile.specs.Lines.{stage_line, state_line, init_line, go_line, line_behind}
 use Rattle.kex_tabfile.specs.Readers.{ReadSoFar}
-use Rattle.kex_tabfile.specs.Walks.{Target, Told, Spot, at_stage, at_state, at_init, at_class, MeetsTarget, GoesByClass, IsRightLine, right_stage, right_state, right_init, right_go, HasNoLine, class_over, state_over, IsThrough, most_table_states}
+use Rattle.kex_tabfile.specs.Walks.{Target, Told, Spot, at_stage, at_state, at_init, at_class, MeetsTarget, GoesByClass, IsRightLine, right_stage, right_state, right_init, right_go, HasNoLine, class_over, state_over, most_table_states}
 use Rattle.kex_tabfile.specs.Checking.{BeginsWith, BreaksReading, NextBy}
 use Rattle.kex_tabfile.specs.declared.refusal.TableRefusal.TheVariants.{BadTable}
 use Rattle.kex_tabfile.proofs.LineSteps.{breaks_here}

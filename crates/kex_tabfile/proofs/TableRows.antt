@@ -1,12 +1,11 @@
 -- The rows that right lines tell make the table of the machine.
-use Rattle.std.proofs.Common.{◌≡◌, ℕ, zero, suc, ◌+◌, ◌<◌, ◌≤◌, List, [], ◌∷◌, ◌++◌, ◌⊎◌, inl, inr, ⊎_elim, Option, Some, None, length, map, refl, sym, ap, subst, ◌∙◌, length-append, arith}
+use Rattle.std.proofs.Common.{◌≡◌, ℕ, zero, suc, ◌<◌, List, [], ◌∷◌, ◌++◌, ◌⊎◌, inl, inr, ⊎_elim, Option, Some, None, length, refl, sym, ap, subst, ◌∙◌, length-append, arith}
 use Rattle.std.specs.Prelude.{slice_get}
-use Rattle.std.proofs.lemmas.Bool.{cases_lt}
-use Rattle.std.proofs.lemmas.Option.{slice_get_within, slice_get_past}
+use Rattle.std.proofs.lemmas.Option.{slice_get_within}
 use Rattle.kex_byteset.specs.Classes.{class_at, class_count}
 use Rattle.kex_code.specs.Codes.{IsAmong}
 use Rattle.kex_model.specs.Labelled.{Shape, shape_of, Grown}
-use Rattle.kex_model.proofs.Tables.{get_more, get_last, get_pushed, some_same}
+use Rattle.kex_model.proofs.Tables.{get_pushed, some_same}
 use Rattle.kex_machine.specs.Nodes.{Graph, node_moves, HasClasses}
 use Rattle.kex_machine.proofs.Nexts.{IsTrim}
 use Rattle.kex_sst.specs.declared.parts.Part.{Part}
@@ -14,13 +13,12 @@ use Rattle.kex_sst.specs.declared.table.Transition.{Transition}
 use Rattle.kex_sst.specs.Parts.{Change}
 use Rattle.kex_sst.specs.Tables.{Row, Transducer, transition_if, IsTable}
 use Rattle.kex_sst.specs.Machines.{IsTableOf}
-use Rattle.kex_paths.specs.Nexts.{HasClass, IsFirstTree, IsNext, IsChange}
+use Rattle.kex_paths.specs.Nexts.{HasClass, IsFirstTree, IsChange}
 use Rattle.kex_paths.proofs.Sizes.{one_first}
 use Rattle.kex_determine.specs.Rows.{DoesOn, IsRowOf, AreRows}
 use Rattle.kex_determine.proofs.MachineTables.{is_table}
 use Rattle.kex_determine.proofs.TableForms.{well_formed}
 use Rattle.kex_determine.proofs.Transitions.{class_below}
-use Rattle.kex_tabfile.specs.Lines.{stage_line}
 use Rattle.kex_tabfile.specs.Walks.{Target, Told, Spot, at_stage, at_state, at_init, at_class, behind_state, MeetsTarget, GoesByClass, IsRightLine, right_stage, right_state, right_init, right_go, HasNoLine, class_over, state_over, WalksLines, stays, passes_by, reads_line, IsThrough}
 use Rattle.kex_tabfile.specs.TableFiles.{goes_of}
 use Rattle.kex_tabfile.specs.Checking.{BeginsWith, HasEnds, EachHasEnds}

@@ -1,5 +1,5 @@
 -- Trees that are written node by node.
-use Rattle.std.proofs.Common.{◌≡◌, ℕ, zero, suc, ◌+◌, ◌<◌, ◌≤◌, Bool, true, false, List, [], ◌∷◌, ◌++◌, ◌⊎◌, inl, inr, ⊎_elim, length, get_or, drop, refl, sym, ap, ap₂, subst, ◌∙◌, append_assoc, append-nil, arith}
+use Rattle.std.proofs.Common.{◌≡◌, ℕ, zero, suc, ◌+◌, ◌<◌, ◌≤◌, Bool, true, false, List, [], ◌∷◌, ◌++◌, inl, inr, ⊎_elim, length, get_or, drop, refl, sym, ap, ap₂, subst, ◌∙◌, append_assoc, append-nil, arith}
 use Rattle.std.specs.Prelude.{codes, decimal}
 use Rattle.std.proofs.Math.Seq.{drop-cons}
 use Rattle.kex_model.specs.Labelled.{Shape, place, parts}
@@ -8,7 +8,7 @@ use Rattle.kex_paths.specs.Nexts.{inner_of, places_of}
 use Rattle.kex_tabfile.specs.Lines.{tree_text}
 use Rattle.kex_tabfile.specs.declared.trees.TreeMark.{TreeMark}
 use Rattle.kex_tabfile.specs.declared.trees.TreeMark.TheVariants.{Comma, Close}
-use Rattle.kex_tabfile.specs.TreeMarks.{TailPart, right_side, closing, mark_of, tail_text, inner_in_tail, places_in_tail, TailWithin, AreTreeMarks, IsTailLeft, TailGoesOn, IsInTree, WritesTree}
+use Rattle.kex_tabfile.specs.TreeMarks.{TailPart, right_side, closing, mark_of, tail_text, inner_in_tail, places_in_tail, AreTreeMarks, IsTailLeft, TailGoesOn, IsInTree, WritesTree}
 
 -- ---- lists by their ends
 

@@ -1,5 +1,5 @@
 -- How a tree is written from its nodes in preorder: what comes behind the tree that is next.
-use Rattle.std.specs.Prelude.{◌≡◌, ℕ, Bool, List, [], ◌∷◌, ◌++◌, ◌⊎◌, codes, drop, length}
+use Rattle.std.specs.Prelude.{◌≡◌, ℕ, Bool, List, [], ◌∷◌, ◌++◌, ◌⊎◌, codes, drop}
 use Rattle.kex_model.specs.Labelled.{Shape}
 use Rattle.kex_machine.specs.Advancing.{EachPlace}
 use Rattle.kex_paths.specs.Nexts.{inner_of, places_of}

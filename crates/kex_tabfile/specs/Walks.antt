@@ -1,5 +1,5 @@
 -- Which lines of a stage are right, each behind those before it.
-use Rattle.std.specs.Prelude.{◌≡◌, ℕ, suc, ◌<◌, ◌≤◌, List, [], ◌∷◌, ◌++◌, ◌⊎◌, Option, Some, None}
+use Rattle.std.specs.Prelude.{◌≡◌, ℕ, ◌<◌, ◌≤◌, List, [], ◌∷◌, ◌++◌, ◌⊎◌, Option, Some, None}
 use Rattle.std.specs.Prelude.{length}
 use Rattle.kex_byteset.specs.Classes.{class_count}
 use Rattle.kex_code.specs.Codes.{Begins, IsAmong}

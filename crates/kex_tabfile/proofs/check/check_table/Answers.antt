@@ -1,11 +1,10 @@
-use Rattle.std.proofs.Common.{◌≡◌, ℕ, ◌≤◌, ◌++◌, [], List, length, map, refl, sym, ap, subst, ◌∙◌, arith}
-use Rattle.kex_machine.specs.Nodes.{Graph}
+use Rattle.std.proofs.Common.{◌≡◌, ◌≤◌, ◌++◌, length, map, sym, ap, subst, ◌∙◌, arith}
 use Rattle.kex_stage.specs.Plans.{AllTell, machine_of}
 use Rattle.kex_stage.specs.declared.plan.Telling.TheVariants as telling
 use Rattle.kex_compile.specs.Compiled.{HasMachines}
 use Rattle.kex_tabfile.specs.Lines.{head_text}
 use Rattle.kex_tabfile.specs.Readers.{most_bytes}
-use Rattle.kex_tabfile.specs.TableFiles.{AreStageTexts, IsBadHead, IsGood, IsTableFile, IsTableRefused, goes_in, of_text}
+use Rattle.kex_tabfile.specs.TableFiles.{IsBadHead, IsGood, IsTableFile, IsTableRefused, goes_in, of_text}
 use Rattle.kex_tabfile.proofs.ResultParts.{if_err}
 use Rattle.kex_tabfile.proofs.FileChecks.{refused_head, refused_text, refused_stages, refused_end, spells_file}
 use Rattle.kex_tabfile.proofs.check.check_table.Goals as goal

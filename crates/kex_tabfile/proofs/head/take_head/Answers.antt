@@ -1,4 +1,4 @@
-use Rattle.std.proofs.Common.{◌≡◌, ℕ, ◌++◌, List, [], Option, Some, None, length, refl, sym, ap, subst, ◌∙◌}
+use Rattle.std.proofs.Common.{◌≡◌, ℕ, ◌++◌, Option, Some, None, length, refl, sym, ap, subst, ◌∙◌}
 use Rattle.kex_code.specs.Codes.{Begins}
 use Rattle.kex_tabfile.specs.Lines.{name_line, size_line, line_behind}
 use Rattle.std.specs.Prelude.{codes}

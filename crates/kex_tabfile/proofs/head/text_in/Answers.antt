@@ -1,4 +1,4 @@
-use Rattle.std.proofs.Common.{◌≡◌, sym, ap, ◌∙◌}
+use Rattle.std.proofs.Common.{sym, ap, ◌∙◌}
 use Rattle.kex_tabfile.proofs.ResultParts.{ok_as}
 use Rattle.kex_tabfile.proofs.head.text_in.Goals as goal
 

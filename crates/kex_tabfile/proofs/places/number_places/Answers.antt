@@ -1,4 +1,4 @@
-use Rattle.std.proofs.Common.{◌≡◌, ℕ, zero, suc, ◌+◌, ◌<◌, [], ◌∷◌, Some, length, sym, ap, subst, ◌∙◌, arith}
+use Rattle.std.proofs.Common.{◌≡◌, suc, ◌+◌, ◌<◌, [], ◌∷◌, Some, length, sym, ap, subst, ◌∙◌, arith}
 use Rattle.kex_machine.specs.Nodes.{MoveBelow, node_moves, move_of}
 use Rattle.kex_machine.proofs.Ranges.{stays_within}
 use Rattle.kex_tabfile.specs.PlaceNumbers.{WalksPlaces, begins, leaves, MeetsPlaces, nexts_of}

@@ -1,4 +1,4 @@
-use Rattle.std.proofs.Common.{◌≡◌, ◌-◌, ◌≤◌, length, vec_len}
+use Rattle.std.proofs.Common.{◌≡◌, ◌-◌, ◌≤◌, length}
 use Rattle.kex_tabfile.specs.PlaceNumbers.{WalksPlaces, IsOrder}
 use Rattle.kex_tabfile.proofs.places.number_places.Given as goal
 

@@ -1,9 +1,7 @@
-use Rattle.std.proofs.Common.{◌≡◌, ℕ, ◌^◌, ◌≤◌, length, ap, sym, subst, ◌∙◌, arith}
-use Rattle.kex_model.specs.Labelled.{Shape, size_of}
+use Rattle.std.proofs.Common.{◌≡◌, length, ap, sym, subst, ◌∙◌, arith}
 use Rattle.kex_machine.specs.Nodes.{node_moves}
 use Rattle.kex_machine.specs.Advancing.{first_accepting, EachPlace}
 use Rattle.kex_sst.specs.Parts.{numbered_tree}
-use Rattle.kex_paths.specs.Nexts.{IsOfShape, inner_of, places_of}
 use Rattle.kex_determine.specs.Rows.{way_to}
 use Rattle.kex_tabfile.proofs.ShapeSizes.{inner_long, size_above, sound_as}
 use Rattle.kex_tabfile.proofs.rows.ends_of.Goals as goal

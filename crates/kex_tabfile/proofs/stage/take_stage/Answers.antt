@@ -1,13 +1,11 @@
-use Rattle.std.proofs.Common.{◌≡◌, ℕ, ◌<◌, ◌≤◌, ◌∷◌, [], List, Some, length, refl, sym, ap, subst, ◌∙◌, arith}
-use Rattle.kex_byteset.specs.Classes.{class_count}
-use Rattle.kex_model.specs.Labelled.{Shape, shape_of, Grown}
+use Rattle.std.proofs.Common.{◌≡◌, ℕ, ◌∷◌, [], List, Some, refl, sym, ap, subst, ◌∙◌, arith}
+use Rattle.kex_model.specs.Labelled.{shape_of, Grown}
 use Rattle.kex_machine.specs.Nodes.{Graph}
 use Rattle.kex_machine.proofs.Ranges.{is_trim}
 use Rattle.kex_sst.specs.declared.parts.Part.{Part}
-use Rattle.kex_sst.specs.Tables.{Row, Transducer, IsTable}
+use Rattle.kex_sst.specs.Tables.{Transducer, IsTable}
 use Rattle.kex_sst.specs.Machines.{IsTableOf}
 use Rattle.kex_paths.specs.Nexts.{IsFirstTree}
-use Rattle.kex_tabfile.specs.Readers.{ReadSoFar, ReadsBytes}
 use Rattle.kex_tabfile.specs.TableFiles.{goes_of}
 use Rattle.kex_tabfile.specs.Walks.{AreNumbersOf, IsStageText, told_first}
 use Rattle.kex_tabfile.specs.Checking.{AreTargets, BeginsWith, BreaksStage}
@@ -28,7 +26,7 @@ returns-in_err-states-clause-bad c =
     if_err c.from_residual-in_err-states.result e _ c.from_residual-in_err-states.ensures.1 (stage_breaks c.args.stage g numbers classes of c.args.reader.now e (c.in_err-states.ensures.bad numbers classes refl))
 
 pub returns-in_err-meet-clause-bad : goal.returns-in_err-meet-clause-bad
-returns-in_err-meet-clause-bad c = if_err c.from_residual-in_err-meet.result Memory (λ e. BreaksStage c.args.machine.now c.args.reader.now e) c.from_residual-in_err-meet.ensures.1 tt
+returns-in_err-meet-clause-bad c = if_err c.from_residual-in_err-meet.result Memory (λ e. BreaksStage c.args.stage c.args.machine.now c.args.reader.now e) c.from_residual-in_err-meet.ensures.1 tt
 
 module _ (c : In_ok-meet) where
   first_at : IsFirstTree c.args.machine.now (Some c.in_ok-tree.ensures.first.0)

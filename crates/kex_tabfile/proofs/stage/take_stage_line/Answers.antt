@@ -1,4 +1,4 @@
-use Rattle.std.proofs.Common.{◌≡◌, ℕ, ◌++◌, List, [], Option, Some, None, length, refl, sym, ap, subst, ◌∙◌, arith}
+use Rattle.std.proofs.Common.{◌≡◌, ℕ, ◌++◌, Option, Some, None, length, refl, sym, ap, subst, ◌∙◌, arith}
 use Rattle.kex_byteset.specs.Classes.{class_count}
 use Rattle.kex_tabfile.specs.Lines.{stage_front, stage_line, line_behind}
 use Rattle.std.specs.Prelude.{codes, decimal}

@@ -1,13 +1,12 @@
-use Rattle.std.proofs.Common.{◌≡◌, ℕ, suc, ◌+◌, ◌<◌, ◌++◌, ◌∷◌, [], List, Some, length, map, refl, sym, ap, subst, ◌∙◌, length-append, arith}
+use Rattle.std.proofs.Common.{◌≡◌, ◌<◌, ◌++◌, ◌∷◌, [], length, refl, sym, ap, subst, ◌∙◌, length-append, arith}
 use Rattle.std.specs.Prelude.{slice_get}
 use Rattle.std.proofs.lemmas.List.{map-append}
 use Rattle.std.proofs.lemmas.Option.{slice_get_within}
 use Rattle.kex_code.specs.Codes.{IsAmong}
-use Rattle.kex_model.specs.Labelled.{Shape}
 use Rattle.kex_sst.specs.Tables.{Row}
 use Rattle.kex_tabfile.specs.TableFiles.{goes_of}
 use Rattle.kex_tabfile.specs.Walks.{Told, at_state}
-use Rattle.kex_tabfile.specs.Checking.{BreaksReading, Checks, EachHasEnds, ChecksAt}
+use Rattle.kex_tabfile.specs.Checking.{EachHasEnds, ChecksAt}
 use Rattle.kex_tabfile.proofs.ResultParts.{if_err}
 use Rattle.kex_tabfile.proofs.LineSteps.{checks_none, checks_on, breaks_later}
 use Rattle.kex_tabfile.proofs.TableRows.{target}

@@ -1,6 +1,6 @@
-use Rattle.std.proofs.Common.{◌≡◌, ℕ, [], List, length}
+use Rattle.std.proofs.Common.{◌≡◌, [], length}
 use Rattle.kex_tabfile.specs.TableFiles.{goes_of}
-use Rattle.kex_tabfile.specs.Walks.{Target, Told, at_state}
+use Rattle.kex_tabfile.specs.Walks.{Told, at_state}
 use Rattle.kex_tabfile.specs.Checking.{Checks, EachHasEnds, ChecksAt}
 use Rattle.kex_tabfile.proofs.stage.take_states.Given as goal
 

@@ -1,4 +1,4 @@
-use Rattle.std.proofs.Common.{◌≡◌, ◌∷◌, ◌++◌, [], inl, subst, sym, ap, ◌∙◌, arith}
+use Rattle.std.proofs.Common.{◌≡◌, ◌∷◌, ◌++◌, [], inl, subst, ap, ◌∙◌, arith}
 use Rattle.kex_model.proofs.OpenAnswers.{empty_list}
 use Rattle.kex_tabfile.specs.declared.trees.TreeMark.TheVariants.{Comma, Close}
 use Rattle.kex_tabfile.specs.TreeMarks.{IsTailLeft}

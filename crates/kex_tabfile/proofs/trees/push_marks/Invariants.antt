@@ -1,4 +1,4 @@
-use Rattle.std.proofs.Common.{◌≡◌, ℕ, List, vec_len}
+use Rattle.std.proofs.Common.{ℕ, List, vec_len}
 use Rattle.kex_tabfile.specs.TreeMarks.{TailPart, AreTreeMarks, IsTailLeft}
 use Rattle.kex_tabfile.proofs.trees.push_marks.Given as goal
 

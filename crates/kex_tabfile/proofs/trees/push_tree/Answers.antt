@@ -1,4 +1,4 @@
-use Rattle.std.proofs.Common.{◌≡◌, ◌+◌, [], ◌∷◌, ◌++◌, length, sym, ap, subst, ◌∙◌, arith}
+use Rattle.std.proofs.Common.{◌+◌, [], ◌∷◌, ◌++◌, length, sym, ap, subst, ◌∙◌, arith}
 use Rattle.kex_machine.specs.Advancing.{EachPlace}
 use Rattle.kex_paths.proofs.LeftTrees.{lists_same}
 use Rattle.kex_tabfile.specs.Lines.{tree_text}

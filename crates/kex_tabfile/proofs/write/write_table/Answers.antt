@@ -1,5 +1,8 @@
-use Rattle.std.proofs.Common.{◌++◌, length, refl, ap, ◌∙◌}
+use Rattle.std.proofs.Common.{◌++◌, length, map, refl, ap, ◌∙◌, arith}
+use Rattle.std.proofs.lemmas.List.{length-map}
 use Rattle.std.specs.Prelude.{codes}
+use Rattle.kex_stage.specs.Plans.{machine_of}
+use Rattle.kex_compile.proofs.FewStages.{few_machines}
 use Rattle.kex_tabfile.specs.Lines.{name_line, size_line, head_text, end_line}
 use Rattle.kex_tabfile.proofs.WrittenFiles.{file_joined}
 use Rattle.kex_tabfile.proofs.write.write_table.Goals as goal
@@ -21,3 +24,9 @@ returns c =
           ∙ file_joined out name_line size text (codes "\n") lines end_line,
       record { lines = lines; stages = st.2; whole = refl },
     )
+
+pub write_stages-requires-clause-few : goal.write_stages-requires-clause-few
+write_stages-requires-clause-few c =
+    let stages = c.args.stages.now in
+    let few = few_machines c.args.text.now (map machine_of stages) c.requires.machines in
+    omega (arith, few, length-map stages machine_of)

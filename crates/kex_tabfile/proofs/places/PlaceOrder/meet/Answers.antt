@@ -1,4 +1,4 @@
-use Rattle.std.proofs.Common.{◌≡◌, ◌<◌, [], ◌∷◌, ◌++◌, length, get_or, set, sym, subst, ◌∙◌, arith}
+use Rattle.std.proofs.Common.{◌≡◌, [], ◌∷◌, ◌++◌, length, set, sym, subst, arith}
 use Rattle.kex_tabfile.specs.PlaceNumbers.{MeetsPlace, IsOrder}
 use Rattle.kex_tabfile.proofs.PlaceOrders.{met_again, met_first, order_more, order_fits, number_read}
 use Rattle.kex_tabfile.proofs.places.PlaceOrder.meet.Goals as goal

@@ -1,4 +1,4 @@
-use Rattle.std.proofs.Common.{◌≡◌, ℕ, true, false, ◌-◌, ◌++◌, [], Option, Some, None, length, refl, sym, ap, subst, ◌∙◌, arith}
+use Rattle.std.proofs.Common.{◌≡◌, ℕ, true, false, ◌-◌, ◌++◌, Option, Some, None, length, refl, sym, ap, subst, ◌∙◌, arith}
 use Rattle.kex_tabfile.specs.Lines.{go_front, go_rest, go_line}
 use Rattle.kex_code.specs.Codes.{Begins}
 use Rattle.kex_model.proofs.Tables.{some_same}

@@ -1,10 +1,9 @@
-use Rattle.std.proofs.Common.{◌≡◌, ℕ, ◌++◌, [], refl, ap, sym, subst, ◌∙◌}
+use Rattle.std.proofs.Common.{◌≡◌, ◌++◌, [], refl, ap, sym, subst, ◌∙◌}
 use Rattle.kex_code.specs.Codes.{Begins}
-use Rattle.kex_model.specs.Labelled.{Shape}
 use Rattle.kex_tabfile.specs.Lines.{init_line}
 use Rattle.kex_tabfile.specs.Readers.{ReadsBytes}
-use Rattle.kex_tabfile.specs.Walks.{Told, at_init, at_class, right_init}
-use Rattle.kex_tabfile.specs.Checking.{Checks, BreaksReading}
+use Rattle.kex_tabfile.specs.Walks.{at_init, at_class, right_init}
+use Rattle.kex_tabfile.specs.Checking.{BreaksReading}
 use Rattle.kex_tabfile.proofs.ResultParts.{on_ok, err_as}
 use Rattle.kex_tabfile.proofs.LineSteps.{checks_line}
 use Rattle.kex_tabfile.proofs.StuckLines.{breaks_init}

@@ -1,4 +1,4 @@
-use Rattle.std.proofs.Common.{◌≡◌, ◌∷◌, ◌++◌, [], Some, None, sym, ap, subst, ◌∙◌}
+use Rattle.std.proofs.Common.{◌≡◌, ◌∷◌, ◌++◌, [], Some, None, sym, subst}
 use Rattle.kex_tabfile.specs.Checking.{AreTargets}
 use Rattle.kex_tabfile.proofs.TargetTrees.{IsLookup, lookup_is, meet_known, meet_other, meet_new, insert_new}
 use Rattle.kex_tabfile.proofs.targets.Targets.meet.Goals as goal

@@ -1,4 +1,4 @@
-use Rattle.std.proofs.Common.{◌≡◌, Some, None, sym, ap, subst, ◌∙◌}
+use Rattle.std.proofs.Common.{Some, None, sym, ap, subst, ◌∙◌}
 use Rattle.std.specs.Prelude.{option_copied}
 use Rattle.kex_tabfile.proofs.ResultParts.{if_some, if_none}
 use Rattle.kex_tabfile.proofs.TargetTrees.{IsLookup, lookup_is, found_target, no_target}
