@@ -1,4 +1,5 @@
 //! What a table holds back of a stage, as slices of the input: lists between marks in a window.
+//! Uses tables, machines and the actor's actions.
 #![tactic(auto)]
 
 pub mod item;

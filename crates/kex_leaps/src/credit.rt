@@ -1,15 +1,15 @@
 // How much is learnt, and when leaps are looked for.
 
-/// How much is learnt at once: for an edge of a row as much as the row has lists, and one more.
+/// How much may be learnt before the first scan counts. An edge costs its row's lists, and one.
 const FIRST: u64 = 2_048;
 
-/// So many scans allow for one more.
+/// This many scans allow for one list more.
 const SCANS: u64 = 64;
 
-/// Behind so many scans in a row that found no leap there is a rest, and behind each more.
+/// After this many scans in a row without a leap there is a rest, and after each more.
 const FRUITLESS: u32 = 16;
 
-/// For so long no leap is looked for then.
+/// How many scans are left out in a rest.
 const REST: u32 = 1_024;
 
 /// How many scans there were and how many found nothing of late, and how much was learnt.

@@ -1,4 +1,4 @@
-// Leaps of input.
+// Looks for a leap in a piece (`scan`), and does it (`perform`).
 
 ghost use Rattle.std.specs.Prelude.{◌≡◌, ◌<◌, ◌≤◌, IfOk, IfSome, OnOk, IsTrue, length, take};
 ghost use Rattle.kex_action.specs.Sheets.{IsSheet, IsAsLong, state_with};

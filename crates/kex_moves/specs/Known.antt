@@ -77,7 +77,7 @@ IsOpening nodes k e = e.kind ≡ Opens → (b : ℕ) (s : ActingState)
     → makes nodes k e b s ≡ with_buffer (b ∷ []) s
 
 -- on a byte of the class the table goes from the pair's state to the edge's, with an update of
--- `out` alone; and for each byte with which its code can be taken from the pair's node, on the way
+-- `out` alone. And for each byte with which its code can be taken from the pair's node, on the way
 -- to anything, it leads to the edge's node and makes what the edge makes
 pub record IsRight (t : Transducer) (nodes : List MNode) (k : Known) (p : Pair) (class : ℕ)
     (e : Edge) : Type 0 where

@@ -1,7 +1,7 @@
-//! The hot loop of a stage over a table: along bytes whose updates say a code alone, without
-//! registers, it goes with the table and the actor at once, by what it has learnt of both.
+//! The hot loop of a stage over a table. Where no register is held, table and actor go on at once,
+//! by what was learnt of both. Over held text the loop leaps, if the leap ends in the piece.
 //!
-//! Stands on tables and actors. `Moves::run` takes a part of a piece of input; `RunsOn` says what
+//! Uses tables and actors. `Moves::run` takes a part of a piece of input; `RunsOn` says what
 //! it leaves. `Phrases::say` performs the words that a runner hands on where registers are held,
 //! by what was learnt of each word at each node.
 //!

@@ -1,4 +1,4 @@
-// Pieces along edges with the actor, in which new edges are learnt.
+// Byte words along edges with the actor, while new edges are learnt.
 
 ghost use Rattle.std.specs.Prelude.{◌≡◌, ◌<◌, ◌≤◌, ◌+◌, ◌*◌, ℕ, List, [], ◌∷◌, IsTrue, IfOk, OnOk};
 ghost use Rattle.std.specs.Prelude.{length, take, drop};

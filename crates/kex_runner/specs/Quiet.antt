@@ -1,5 +1,5 @@
--- Quiet updates: those that pass nothing on. They are told by places, a row for each state and in
--- it a place for each class.
+-- Quiet updates: those that pass nothing on, by places: a row for each state, and in it a place for
+-- each class. Code takes only those whose target has registers.
 use Rattle.std.specs.Prelude.{◌≡◌, ℕ, ◌+◌, ◌*◌, ◌/◌, ◌%◌, ◌^◌, ◌<◌, ◌≤◌, true, List, Some, get_or}
 use Rattle.std.specs.Prelude.{length, map, slice_get}
 use Rattle.kex_byteset.specs.Classes.{class_at, class_count}

@@ -11,9 +11,9 @@ use Rattle.kex_runner.specs.declared.answers.Fed.TheVariants.{On, Dead}
 use Rattle.kex_runner.specs.declared.answers.Ended.{Ended}
 use Rattle.kex_runner.specs.declared.answers.Ended.TheVariants.{Parsed, Cut}
 
--- a runner: its table, the words that it tells, its state, what it has still to pass on, what its
--- registers hold, how many good bytes it has read, whether a byte was refused, whether the end was
--- given, and whether no call has answered want of memory
+-- a runner: its table, its words, its state, what is still to be passed on, and what its registers
+-- hold. Then the count of good bytes, and whether a byte was refused, the end was given, and no
+-- call has answered want of memory.
 pub record Running : Type 0 where
   pub table : Transducer
   pub words : List (List Part)

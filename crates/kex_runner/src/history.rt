@@ -17,7 +17,7 @@ pub struct NotedUpdate {
     pub stays: bool,
 }
 
-/// A register where the notes begin: the pieces that it holds, the last first.
+/// A register where the notes begin: its byte words, the last first.
 #[derive(Drop)]
 pub struct Settled {
     pub pieces: Vec<ByteWord>,

@@ -1,8 +1,9 @@
 //! Runs a table over bytes, and passes on its code as the bytes come.
 //!
-//! Stands on tables and their scripts. A `Runner` keeps neither its bytes nor its code: `IsRunOf`
-//! says which bytes it was fed, and which code it has passed on. `Runner::feed`, `hold` and `end`
-//! carry this on, and `jump` past bytes whose code was passed on elsewhere.
+//! Uses tables and their scripts. A `Runner` keeps no byte once nothing is held, and no code that
+//! it has passed on. `IsRunOf` says which bytes it was fed, and which code it has passed on.
+//! `Runner::feed`, `hold`, `apply` and `end` carry this on, and `jump` past bytes whose code was
+//! passed on elsewhere.
 //!
 //! Registers aren't written while bytes come. An update is noted with its byte, and a register is
 //! looked up backwards through the notes when it is passed on:
@@ -13,10 +14,10 @@
 //! ```
 //!
 //! Here `main := "1 " /a*b/ | "2 " /a*c/` is fed `aaaab`. I gives register 0 the symbol L and
-//! register 1 the symbol R. A puts `L ·` behind both, `·` being the byte; it passes nothing on
-//! and is noted four times. On b what register 0 holds is passed on, and then `R ·`: from the
-//! last note on, the way `0` is before A the same way and the word `L ·`, and before I the word
-//! `L` alone. So the pieces are `L`, four times `L ·` with a, and `R ·` with b: the code
+//! register 1 the symbol R. A puts `L ·` after both, `·` being the byte. It passes nothing on
+//! and is noted four times. On b what register 0 holds is passed on, and then `R ·`. Before
+//! the last note, A, the way of register 0 is the same way and the word `L ·`. Before I it is the
+//! word `L` alone. So the byte words are `L`, four times `L ·` with a, and `R ·` with b: the code
 //! `LLaLaLaLaRb`. README.md has this byte by byte, and what notes, ways and settled registers
 //! are.
 #![tactic(auto)]

@@ -21,11 +21,11 @@ use kex_sst::table::Table;
 use std::alloc::Global;
 use std::sync::ledger::Ledger;
 
-// Behind so many bytes a runner stops wherever it has no registers.
+// After this many bytes a runner stops as soon as it has no registers.
 const PATIENCE: usize = 64;
 
-/// So many bytes of a piece were taken, of which so many are good: all, or all but the last, at
-/// which the table stops.
+/// How many bytes of a piece were taken, and how many are good: all, or all but the last, at which
+/// the table stops.
 #[derive(Clone, Copy)]
 pub struct Taken {
     pub taken: usize,

@@ -1,4 +1,4 @@
-// Quiet updates: those that pass nothing on and leave registers.
+// Quiet updates: those that pass nothing on and lead to a state with registers.
 
 ghost use Rattle.std.specs.Prelude.{◌≡◌, ◌<◌, ◌≤◌, ◌^◌, ◌/◌, IfOk, length};
 ghost use Rattle.kex_script.specs.Scripts.{IsScriptOf};

@@ -36,7 +36,7 @@ use std::alloc::Global;
 use std::mem;
 use std::sync::ledger::Ledger;
 
-// So many updates are noted at least before the registers are settled.
+// The fewest noted updates at which registers are settled.
 const LEAST: usize = 4096;
 
 /// The registers of a state. Updates are noted, and not done: a register is looked up where it is

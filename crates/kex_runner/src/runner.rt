@@ -1,4 +1,4 @@
-// A runner.
+// Feeds a table and passes on its code: `feed`, `hold`, `jump`, `end`.
 
 mod applying;
 mod places;
@@ -85,7 +85,7 @@ fn hand_over(pending: &mut Vec<ByteWord>, pieces: &mut Vec<ByteWord>)
     }
 }
 
-/// So many bytes of a piece were taken, and what they leave.
+/// How many bytes of a piece were taken, and what they leave.
 #[derive(Clone, Copy, Debug, PartialEq, Eq)]
 pub struct Held {
     pub taken: usize,

@@ -1,4 +1,4 @@
-// Pieces into codes.
+// Byte words into codes.
 
 ghost use Rattle.std.specs.Prelude.{◌≡◌, ◌++◌, [], OnOk};
 ghost use Rattle.kex_sst.specs.Parts.{parts_code, value};

@@ -1,4 +1,4 @@
-// Ways: old registers one behind the other, and what they were before an update.
+// Ways: old registers one after another, and what they were before an update.
 
 pub mod ids;
 
@@ -19,11 +19,11 @@ use kex_script::script::Script;
 use kex_sst::parts::{Part, Parts, are_same};
 use std::alloc::Global;
 
-// So many ways are kept at most.
+// The most ways that are kept.
 const MOST: usize = 16_384;
 
-// Where the rows of updates are longer than this, no ways are known: what is kept of each would be
-// fetched from far.
+// Where the rows of updates have more numbers than this, no ways are kept: each look at one would
+// come from far memory.
 const NEAR: usize = 1 << 16;
 
 /// A list is a way, and then a word or none. `last` is the way's last register.

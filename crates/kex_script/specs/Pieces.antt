@@ -1,4 +1,4 @@
--- What pieces spell, over a list of words.
+-- What byte words spell, over a list of words.
 use Rattle.std.specs.Prelude.{List, [], ◌∷◌, ◌++◌, get_or}
 use Rattle.kex_code.specs.declared.symbol.Symbol.{Symbol}
 use Rattle.kex_sst.specs.declared.parts.Part.{Part}

@@ -38,10 +38,9 @@ pub struct Entry {
     pub registers: u32,
 }
 
-/// The lists of a table's updates by number, each as parts and from its end, and the words that
-/// they end with; the updates, in rows: how many registers are given something, the number of the
-/// list that is passed on, and those of the registers; and for each state, and in it for each
-/// class, an entry. Each symbol is a word.
+/// The lists of a table's updates by number, each as parts and from its end, and their words. The
+/// updates, in rows: a count of registers, the list that is passed on, and a list for each
+/// register. An entry for each state and class. Each symbol is a word.
 #[derive(Drop)]
 pub struct Script {
     words: Vec<Parts>,

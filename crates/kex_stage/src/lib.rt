@@ -1,7 +1,7 @@
 //! One stage, from bytes to bytes: the oracle that finds the code, by paths or by a table, and the
 //! action machine that performs it.
 //!
-//! Stands on frontiers, runners, what is learnt of a table, actors and `Turn`. `Stage` is a `Turn`
+//! Uses frontiers, runners, what is learnt of a table, actors and `Turn`. `Stage` is a `Turn`
 //! whose answer is the stage's over the nodes of its machine.
 #![tactic(auto)]
 

@@ -1,4 +1,4 @@
-// A stage.
+// A stage: an oracle finds the code, and an actor performs it.
 
 ghost use Rattle.std.specs.Prelude.{◌≡◌, ◌&&◌, not, true, IfOk, OnOk, IsTrue, None};
 ghost use Rattle.kex_machine.specs.Answers.{HasRun, MeansByRun, IsViableFor};

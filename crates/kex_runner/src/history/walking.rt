@@ -23,8 +23,8 @@ use kex_sst::parts::Part;
 use std::alloc::Global;
 use std::mem;
 
-/// A way over what the registers were after so many notes, and where the pieces begin that stand
-/// behind it.
+/// A way over what the registers were after the first `after` notes. The byte words that come after
+/// it begin at `start`.
 #[derive(Clone, Copy)]
 pub struct WalkPoint {
     pub way: WayId,

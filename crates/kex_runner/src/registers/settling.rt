@@ -1,4 +1,4 @@
-// Registers that updates leave which no script has: their pieces are settled at once.
+// Registers after updates that aren't in the script: they are settled at once.
 
 ghost use Rattle.std.specs.Prelude.{◌≡◌, ◌++◌, ◌∷◌, [], List, OnOk, OnErr, IfOk, length};
 ghost use Rattle.kex_sst.specs.declared.parts.Part.{Part};
