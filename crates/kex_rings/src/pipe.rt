@@ -2,7 +2,7 @@
 
 ghost use Rattle.std.specs.Prelude.{◌≡◌, ◌≢◌, ◌<◌, ◌≤◌, ◌^◌, ◌↔◌, ◌++◌, ◌∷◌, ◌⊎◌, [], List, ℕ};
 ghost use Rattle.std.specs.Prelude.{Bool, false, None, Err, IsTrue, IfOk, OnOk, OnErr, is_err, All};
-ghost use Rattle.std.specs.Prelude.{map, vec_len};
+ghost use Rattle.std.specs.Prelude.{length, map, vec_len};
 ghost use Rattle.kex_model.specs.Answers.{Pipeline};
 ghost use Rattle.kex_model.specs.Schedules.{Event, give, give_end, Settled};
 ghost use Rattle.kex_rings.specs.Ends.{AreBeside};
@@ -36,6 +36,7 @@ pub struct RingPipe<T: Turn> {
     pub(crate) output: Inbox,
     pub(crate) ended: bool,
     pub(crate) spent: bool,
+    pub(crate) carried: usize,
     ghost some: { spent ≡ false → 0 < vec_len seats },
     ghost few: { vec_len seats < 2 ^ 32 },
     ghost all_usable: { spent ≡ false → All (λ s. IsTrue s.seat.usable) seats.items },
@@ -91,6 +92,7 @@ impl<T: Turn + Drop> RingPipe<T> {
             output: Inbox::new(alloc),
             ended: false,
             spent: false,
+            carried: 0,
         })
     }
 
@@ -200,6 +202,20 @@ impl<T: Turn + Drop> RingPipe<T> {
         report
     }
 
+    /// How many bytes at most a stage had to hand on when the pipe was last settled.
+    pub fn most_carried(&self) -> usize
+        ensures { result ≡ self.now.carried }
+    {
+        self.carried
+    }
+
+    /// How many bytes of output are in hand.
+    pub fn output_length(&self) -> usize
+        ensures { result ≡ length (rings_in_hand T.Turn self.now) }
+    {
+        self.output.byte_count()
+    }
+
     /// Takes the output that is in hand, in the place of what `out` held. The room of that is kept
     /// for the output to come.
     pub fn take_output_into(&mut self, out: &mut Vec<u8>)
@@ -270,7 +286,13 @@ impl<T: Turn + Drop> RingPipe<T> {
             return Err(PipeFault::Spent);
         }
         let seats = replace(&mut self.seats, Vec::new(self.alloc));
-        match settle_all(self.alloc, self.room, seats, &mut self.output) {
+        match settle_all(
+            self.alloc,
+            self.room,
+            seats,
+            &mut self.output,
+            &mut self.carried,
+        ) {
             Ok(row) => {
                 self.seats = row;
                 Ok(())

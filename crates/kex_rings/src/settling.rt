@@ -54,11 +54,12 @@ fn settle_one<T: Turn + Drop>(seat: RingSeat<T>, carried: &mut Inbox) -> Result<
     Ok(seat)
 }
 
-// The same for all of them.
+// The same for all of them. `most` becomes the number of bytes that were carried on at most.
 fn settle_each<T: Turn + Drop>(
     alloc: Global,
     seats: Vec<RingSeat<T>>,
     carried: &mut Inbox,
+    most: &mut usize,
 ) -> Result<Vec<Seat<T>>, Memory>
     requires { AllRingSeatsUsable T.Turn seats.items }
     ensures usable { IfOk result (λ settled. AllSeatsUsable T.Turn settled.items) }
@@ -66,20 +67,24 @@ fn settle_each<T: Turn + Drop>(
         (waiting_items carried.old) (waiting_items carried.new)) }
 {
     let mut settled = Vec::new(alloc);
+    *most = 0;
     for seat in seats {
         let after = settle_one(seat, carried)?;
         settled.push(after)?;
+        *most = carried.byte_count().max(*most);
     }
     Ok(settled)
 }
 
 /// The stages with new rings, after each has taken all that waits before it, those in front first.
-/// What the last one has written goes behind the output in hand.
+/// What the last one has written goes behind the output in hand. `most` becomes the number of bytes
+/// that were carried at most from a stage on.
 pub(crate) fn settle_all<T: Turn + Drop>(
     alloc: Global,
     room: u32,
     seats: Vec<RingSeat<T>>,
     output: &mut Inbox,
+    most: &mut usize,
 ) -> Result<Vec<RingSeat<T>>, Memory>
     requires { AllRingSeatsUsable T.Turn seats.items }
     ensures usable { IfOk result (λ row. AllRingSeatsUsable T.Turn row.items) }
@@ -92,7 +97,7 @@ pub(crate) fn settle_all<T: Turn + Drop>(
     ensures hand { OnErr result (unread_bytes output.new ≡ unread_bytes output.old) }
 {
     let mut carried = Inbox::new(alloc);
-    let settled = settle_each(alloc, seats, &mut carried)?;
+    let settled = settle_each(alloc, seats, &mut carried, most)?;
     let row = join_all(alloc, room, settled)?;
     output.append(&mut carried)?;
     Ok(row)
