@@ -1,6 +1,5 @@
 -- What a pipe of stages says of what it was fed.
-use Rattle.std.proofs.Common.{◌≡◌, ℕ, ◌<◌, Bool, true, false, List, [], ◌∷◌, ◌++◌, ◌||◌, Option, Some, None, length, map, take, get_or, zero, suc, arith, refl, sym, ap, ap₂, subst, ◌∙◌, append-nil}
-use Rattle.std.proofs.lemmas.List.{take_all}
+use Rattle.std.proofs.Common.{◌≡◌, ℕ, ◌<◌, Bool, true, false, List, [], ◌∷◌, ◌++◌, ◌||◌, Option, Some, None, length, map, get_or, zero, suc, arith, refl, sym, ap, ap₂, subst, ◌∙◌, append-nil}
 use Rattle.kex_model.specs.Answers.{Answer, Pipeline}
 use Rattle.kex_model.specs.Schedules.{StreamItem, Progress, has_end, Event, give, give_end, After, Settled}
 use Rattle.kex_pipe.specs.Events.{bytes_given, end_given}
@@ -49,17 +48,17 @@ module _ {T : Type 0} (t : Ghosts T) where
   pub same-plans : (ps : List t.Plan) (pipe : AnyPipe T t) (h : List Event) (taken : List ℕ) → AnyPipeStands t ps pipe h taken → plans_of t pipe ≡ ps
   same-plans ps (Rounds pipe) h taken s = line-plans s.came ps pipe.seats.items s.seats pipe.output taken s.line
   same-plans ps (Turns pipe sharing) h taken s = line-plans s.came ps pipe.seats.items s.seats pipe.output taken s.line
-  same-plans ps (Rings pipe counts) h taken s = ring-plans s.came [] ps pipe.seats.items s.seats pipe.output taken s.line
+  same-plans ps (Rings pipe work) h taken s = ring-plans s.came [] ps pipe.seats.items s.seats pipe.output taken s.line
 
   pub is-closed : (ps : List t.Plan) (pipe : AnyPipe T t) (h : List Event) (taken : List ℕ) → AnyPipeStands t ps pipe h taken → is_any_in_round t pipe ≡ false
   is-closed ps (Rounds pipe) h taken s = s.closed
   is-closed ps (Turns pipe sharing) h taken s = s.closed
-  is-closed ps (Rings pipe counts) h taken s = refl
+  is-closed ps (Rings pipe work) h taken s = refl
 
   end-as-given : (ps : List t.Plan) (pipe : AnyPipe T t) (h : List Event) (taken : List ℕ) → AnyPipeStands t ps pipe h taken → piped.is_any_ended t pipe ≡ end_given h
   end-as-given ps (Rounds pipe) h taken s = s.same_end ∙ ap has_end (came-given t.gives s.after) ∙ end-items (bytes_given h) (end_given h)
   end-as-given ps (Turns pipe sharing) h taken s = s.same_end ∙ ap has_end (came-given t.gives s.after) ∙ end-items (bytes_given h) (end_given h)
-  end-as-given ps (Rings pipe counts) h taken s = s.same_end ∙ ap has_end (came-given t.gives s.after) ∙ end-items (bytes_given h) (end_given h)
+  end-as-given ps (Rings pipe work) h taken s = s.same_end ∙ ap has_end (came-given t.gives s.after) ∙ end-items (bytes_given h) (end_given h)
 
   -- a pipe of some stages that has come by nothing
   pub fresh-pipe : (ps : List t.Plan) (pipe : AnyPipe T t) → 0 < length ps → AnyPipeStands t ps pipe [] [] → PipeStands t pipe None
@@ -151,12 +150,3 @@ bytes-same h = bytes_given-append h (give_end ∷ []) ∙ append-nil (bytes_give
 
 pub end-now : (h : List Event) → end_given (h ++ give_end ∷ []) ≡ true
 end-now h = end_given-append h (give_end ∷ []) ∙ or-yes (end_given h)
-
--- all of some bytes were given
-pub all-given : (stands : List Event → Type 0) (h : List Event) (bytes : List ℕ) → stands (h ++ give bytes ∷ []) → IsGiven stands (take (length bytes) bytes) h
-all-given stands h bytes s = record {
-  events = h ++ give bytes ∷ [];
-  bytes = bytes-more h bytes ∙ ap (λ z. bytes_given h ++ z) (sym (take_all (length bytes) bytes (omega arith)));
-  same_end = end-open h bytes;
-  stands_for = s;
-}

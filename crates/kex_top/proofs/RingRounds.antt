@@ -1,6 +1,6 @@
 -- What is given over rings is worked off by some rounds, and then by settling.
 use Rattle.std.proofs.Common.{ℕ, List, [], ◌++◌, refl, sym, ◌∙◌, append-nil}
-use Rattle.kex_model.specs.Schedules.{Event}
+use Rattle.kex_model.specs.Schedules.{Event, Settled}
 use Rattle.kex_pipe.specs.Events.{bytes_given}
 use Rattle.kex_pipe.specs.declared.turn.Turn.{Ghosts}
 use Rattle.kex_rings.specs.Lines.{turns_from}
@@ -16,6 +16,10 @@ module _ {T : Type 0} (t : Ghosts T) (ps : List t.Plan) (h : List Event) (taken 
 
   pub none-given : (pipe : RingPipe T t) → RingsStand t ps pipe h taken → Given pipe []
   none-given pipe s = record { events = h; bytes = sym (append-nil (bytes_given h)); same_end = refl; stands_for = s }
+
+  -- all is worked off already
+  pub settled-off : (pipe : RingPipe T t) (s : RingsStand t ps pipe h taken) → Settled t.gives s.came ps s.seats → IsWorkedOff t.gives ps (λ k. RingsStand t ps pipe k taken) h
+  settled-off pipe s done = record { events = h; same_bytes = refl; same_end = refl; stands_for = s; settled = record { came = s.came; seats = s.seats; after = s.after; settled = done } }
 
   module _ (old pipe : RingPipe T t) (g : Given old []) where
     pub round-made : (counts : List ℕ) → ((k : List Event) → RingsStand t ps old k taken → RingsStand t ps pipe (k ++ turns_from 0 counts) taken) → Given pipe []

@@ -55,17 +55,6 @@ module _ {T : Type 0} (t : Ghosts T) where
         stands_for = next g.events g.stands_for;
       }
 
-  -- a piece more was given, and worked off
-  pub piece-given : (front part more : List ℕ) (ps : List t.Plan) (h : List Event) (taken : List ℕ) (old pipe : Pipe T t) → front ++ part ≡ more → ((k : List Event) → Stands t ps old k taken → IsWorkedOff t.gives ps (λ m. Stands t ps pipe m taken) (k ++ give part ∷ [])) → IsGiven (λ k. Stands t ps old k taken) front h → IsGiven (λ k. Stands t ps pipe k taken) more h
-  piece-given front part more ps h taken old pipe joined next g =
-      let w = next g.events g.stands_for in
-      record {
-        events = w.events;
-        bytes = w.same_bytes ∙ bytes-more g.events part ∙ ap (λ z. z ++ part) g.bytes ∙ append_assoc (bytes_given h) front part ∙ ap (λ z. bytes_given h ++ z) joined;
-        same_end = w.same_end ∙ end-open g.events part ∙ g.same_end;
-        stands_for = w.stands_for;
-      }
-
   -- after some rounds so many stages have worked off all that came to them
   pub record Rounding (i : ℕ) (ps : List t.Plan) (h : List Event) (taken : List ℕ) (pipe : Pipe T t) : Type 0 where
     pub events : List Event
@@ -95,3 +84,14 @@ module _ {T : Type 0} (t : Ghosts T) where
 -- what was worked off of these events was of those that gave the same
 pub off-of : {P : Type 0} (gives : P → List ℕ → Bool → Answer → Type 0) (ps : List P) (stands : List Event → Type 0) (given events : List Event) → bytes_given events ≡ bytes_given given → end_given events ≡ end_given given → IsWorkedOff gives ps stands events → IsWorkedOff gives ps stands given
 off-of gives ps stands given events bytes end w = record { events = w.events; same_bytes = w.same_bytes ∙ bytes; same_end = w.same_end ∙ end; stands_for = w.stands_for; settled = w.settled }
+
+-- a piece more was given, and worked off
+pub piece-given : {P : Type 0} (gives : P → List ℕ → Bool → Answer → Type 0) (ps : List P) (before after : List Event → Type 0) (h : List Event) (front part more : List ℕ) → front ++ part ≡ more → ((k : List Event) → before k → IsWorkedOff gives ps after (k ++ give part ∷ [])) → IsGiven before front h → IsGiven after more h
+piece-given gives ps before after h front part more joined next g =
+    let w = next g.events g.stands_for in
+    record {
+      events = w.events;
+      bytes = w.same_bytes ∙ bytes-more g.events part ∙ ap (λ z. z ++ part) g.bytes ∙ append_assoc (bytes_given h) front part ∙ ap (λ z. bytes_given h ++ z) joined;
+      same_end = w.same_end ∙ end-open g.events part ∙ g.same_end;
+      stands_for = w.stands_for;
+    }

@@ -11,6 +11,7 @@ ghost use Rattle.kex_top.specs.Piped.{PipeStands, any_in_hand, is_any_ended, is_
 ghost use Rattle.kex_top.specs.Piped.{plans_of};
 
 use crate::pipeline::Limited;
+use crate::rings::RingWork;
 use crate::rounds::Pace;
 use crate::sharing::Sharing;
 use crate::{rings, rounds, turns};
@@ -31,8 +32,8 @@ pub(crate) enum AnyPipe<T: Turn> {
     /// The stages take turns in their order, and each stage's desks work on parts of what it is to
     /// read.
     Turns { pipe: Pipe<T>, sharing: Sharing },
-    /// Rings join the stages. How much each took in the last round is kept beside.
-    Rings { pipe: RingPipe<T>, counts: Vec<u64> },
+    /// Rings join the stages.
+    Rings { pipe: RingPipe<T>, work: RingWork },
 }
 
 impl<T: Turn + Drop> AnyPipe<T> {
@@ -53,7 +54,7 @@ impl<T: Turn + Drop> AnyPipe<T> {
             None => Ok(AnyPipe::Rounds(Pipe::new(alloc, stages)?)),
             Some(rings) => Ok(AnyPipe::Rings {
                 pipe: RingPipe::new(alloc, stages, rings.room)?,
-                counts: Vec::new(alloc),
+                work: RingWork::new(alloc),
             }),
         }
     }
@@ -119,7 +120,7 @@ impl<T: Turn + Drop> AnyPipe<T> {
     }
 }
 
-/// Gives bytes at this pace, and tells how many were given: over rings all of them.
+/// Gives bytes at this pace, and tells how many were given.
 pub(crate) fn give_front<R: Threads + Sync, T: Limited + Drop + Send, G: Gate + Sync>(
     rt: &R,
     pipe: &mut AnyPipe<T>,
@@ -140,7 +141,7 @@ pub(crate) fn give_front<R: Threads + Sync, T: Limited + Drop + Send, G: Gate + 
         AnyPipe::Turns { pipe, sharing } => {
             turns::give_front(rt, pipe, gate, pace, sharing, bytes)
         }
-        AnyPipe::Rings { pipe, .. } => rings::give_all(pipe, bytes),
+        AnyPipe::Rings { pipe, work } => rings::give_front(rt, pipe, gate, pace, work, bytes),
     }
 }
 
@@ -162,6 +163,9 @@ pub(crate) fn work_off<R: Threads + Sync, T: Limited + Drop + Send, G: Gate + Sy
             turns::work_off(rt, pipe, gate, sharing.least())?;
             Ok(())
         }
-        AnyPipe::Rings { pipe, counts } => rings::work_off(rt, pipe, gate, counts),
+        AnyPipe::Rings { pipe, work } => {
+            rings::work_off(rt, pipe, gate, work)?;
+            Ok(())
+        }
     }
 }

@@ -13,6 +13,7 @@ mod exec;
 mod limits;
 mod lines;
 mod pass;
+mod piece_length;
 mod pipeline;
 mod plain;
 mod program;

@@ -12,7 +12,7 @@ use kex_rounds::round::round;
 use std::thread::Threads;
 
 /// So many bytes of output are worth a write before the block is worked off.
-const ENOUGH: usize = 65_536;
+pub(crate) const ENOUGH: usize = 65_536;
 
 /// So many bytes of output are written before more is given: what waits is worked off for that.
 pub(crate) const MUCH: usize = 1_048_576;

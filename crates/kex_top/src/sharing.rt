@@ -1,28 +1,23 @@
 // How a run's input is cut for stages whose desks share it.
 ghost use Rattle.std.specs.Prelude.{◌<◌, ◌≤◌};
 
+use crate::piece_length::PieceLength;
 use crate::rounds::MUCH;
-
-// A piece has so many bytes at first.
-const FIRST: usize = 16_384;
 
 // A part of fewer bytes isn't worth a thread.
 const WORTH: usize = 16_384;
 
-/// How long pieces are, and whether desks had one to share. They are long, so that each desk's part
-/// is, as long as what stages make of one isn't much.
+/// How long pieces are, so that each desk's part is long, and whether desks had one to share.
 #[derive(Clone, Copy)]
 pub(crate) struct Sharing {
-    piece: usize,
+    length: PieceLength,
     begun: bool,
-    ghost some: { 0 < piece },
-    ghost few: { piece ≤ 1048576 },
 }
 
 impl Sharing {
     pub(crate) fn new() -> Sharing {
         Sharing {
-            piece: FIRST,
+            length: PieceLength::new(MUCH),
             begun: false,
         }
     }
@@ -32,7 +27,7 @@ impl Sharing {
         ensures some { 0 < result }
         ensures few { result ≤ 1048576 }
     {
-        self.piece
+        self.length.bytes()
     }
 
     /// The fewest bytes of a part. The first piece of a run that has two bytes is shared whatever
@@ -46,10 +41,6 @@ impl Sharing {
     /// So many bytes were given, and so many at most lay before a stage for them or are output.
     pub(crate) fn learn(&mut self, given: usize, most: usize) {
         self.begun = self.begun || given > 1;
-        if most > MUCH {
-            self.piece = (self.piece / 2).max(FIRST);
-        } else if given == self.piece && most <= MUCH / 2 {
-            self.piece = (self.piece * 2).min(MUCH);
-        }
+        self.length.learn(given, most);
     }
 }

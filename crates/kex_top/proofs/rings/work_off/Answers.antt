@@ -1,19 +1,19 @@
-use Rattle.std.specs.Prelude.{Result, Ok, Err, OnOk}
-use Rattle.kex_top.proofs.RingRounds.{none-given, rest-settled, round-made}
+use Rattle.std.proofs.Common.{rules, refl, ◌∙◌}
+use Rattle.kex_top.proofs.RingRounds.{none-given, rest-settled, round-made, settled-off}
 use Rattle.kex_top.proofs.rings.work_off.Goals as goal
 
+pub returns-then-settled-clause-works : goal.returns-then-settled-clause-works
+returns-then-settled-clause-works g c = λ ps h taken s. settled-off g.T.Turn ps h taken c.args.pipe.now s ((c.settled.ensures.settled ps h taken s).0 (search rules))
+
 pub rounds-init : goal.rounds-init
-rounds-init g c = λ ps h taken s. none-given g.T.Turn ps h taken c.args.pipe.now s
+rounds-init g c = record { given = λ ps h taken s. none-given g.T.Turn ps h taken c.args.pipe.now s; ended = refl }
 
 pub rounds-preserved : goal.rounds-preserved
-rounds-preserved g c = λ ps h taken s.
-    round-made g.T.Turn ps h taken c.rounds.pipe c.ring_round.new.pipe (c.rounds.invariant ps h taken s) c.ring_round.new.counts.items (λ k st. c.in_ok-ring_round.ensures.stands ps k taken st)
+rounds-preserved g c = record {
+  given = λ ps h taken s.
+      round-made g.T.Turn ps h taken c.rounds.pipe c.ring_round.new.pipe (c.rounds.invariant.given ps h taken s) c.ring_round.new.counts.items (λ k st. c.in_ok-ring_round.ensures.stands ps k taken st);
+  ended = c.ring_round.ensures.ended ∙ c.rounds.invariant.ended;
+}
 
-on-ok : {T E : Type 0} (P Q : Type 0) → (P → Q) → (r : Result T E) → OnOk r P → OnOk r Q
-on-ok P Q f (Ok x) h = f h
-on-ok P Q f (Err e) h = tt
-
-pub returns : goal.returns
-returns g c =
-    on-ok _ _ (λ works ps h taken s.
-    rest-settled g.T.Turn ps h taken c.rounds.pipe c.settle.new.self (c.rounds.invariant ps h taken s) (λ k st. works ps k taken st)) c.settle.result c.settle.ensures.works
+pub returns-clause-works : goal.returns-clause-works
+returns-clause-works g c = λ ps h taken s. rest-settled g.T.Turn ps h taken c.rounds.pipe c.settle.new.self (c.rounds.invariant.given ps h taken s) (λ k st. c.in_ok-settle.ensures.works ps k taken st)

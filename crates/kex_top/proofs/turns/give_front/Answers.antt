@@ -1,5 +1,6 @@
 use Rattle.std.proofs.Common.{◌++◌, ◌∷◌, [], ◌∙◌, ◌-◌, ◌≤◌, ℕ, List, take, drop, arith, length}
 use Rattle.kex_model.specs.Schedules.{give}
+use Rattle.kex_pipe.specs.Standing.{Stands}
 use Rattle.kex_top.proofs.StageRounds.{none-given, piece-given, front-more}
 use Rattle.kex_top.proofs.turns.give_front.Goals as goal
 
@@ -25,7 +26,7 @@ pieces-preserved g c =
     record {
       within = within;
       given = λ ps h taken s.
-          piece-given t (take l.given bytes) part (take end bytes) ps h taken l.pipe c.work_off.new.pipe (front-more bytes l.given end past)
+          piece-given t.gives ps (λ k. Stands t ps l.pipe k taken) (λ k. Stands t ps c.work_off.new.pipe k taken) h (take l.given bytes) part (take end bytes) (front-more bytes l.given end past)
           (λ k st. c.in_ok-most.ensures.works ps (k ++ give part ∷ []) taken (c.in_ok-give.ensures.stands ps k taken st))
           (l.invariant.given ps h taken s);
       unended = c.in_ok-most.ensures.ended ∙ c.give.ensures.ended ∙ l.invariant.unended;
@@ -40,6 +41,6 @@ returns-then-is_due-clause-given g c = λ ps h taken s.
     let end : ℕ = c.min-end.result in
     let part : List ℕ = take (end - l.given) (drop l.given bytes) in
     let past : l.given ≤ end = omega (arith, c.min-end.ensures, l.invariant.within) in
-    piece-given t (take l.given bytes) part (take end bytes) ps h taken l.pipe c.work_off.new.pipe (front-more bytes l.given end past)
+    piece-given t.gives ps (λ k. Stands t ps l.pipe k taken) (λ k. Stands t ps c.work_off.new.pipe k taken) h (take l.given bytes) part (take end bytes) (front-more bytes l.given end past)
     (λ k st. c.in_ok-most.ensures.works ps (k ++ give part ∷ []) taken (c.in_ok-give.ensures.stands ps k taken st))
     (l.invariant.given ps h taken s)
