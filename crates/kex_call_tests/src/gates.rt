@@ -100,9 +100,10 @@ impl Gate for EntryGate {
 
 // How often work begins on an input. It begins once before the first byte, and once at the end.
 // Between them a round takes all that came; over rings a stage takes in a round no more than 16
-// times a ring's room, and after 64 rounds the rest is settled. A trial of one line has nine bytes
-// and goes by blocks through two stages, of which the first writes at the end of the line. Lines by
-// themselves are shared out in as many parts as there are workers, or lines if those are fewer. So
+// times a ring's room, and after 64 rounds the rest is settled. So it is with each piece of a block,
+// of which the first one has 16,384 bytes at most. A trial of one line has nine bytes and goes by
+// blocks through two stages, of which the first writes at the end of the line. Lines by themselves
+// are shared out in as many parts as there are workers, or lines if those are fewer. So
 // is a block, in parts as many as workers, or bytes: each part is one entry, and the stage's own
 // turns are none.
 const COUNTS: &str = "\
@@ -115,6 +116,7 @@ run p --rings=1 # %a%1000% # 65
 run p --rings=1 # %a%2000% # 66
 run p --rings=2 # %a%2000% # 65
 run p --rings=4096 # %a%2000% # 3
+run p --rings=65536 # %a%20000% # 4
 trial 1 #  # 10
 trial 1 --block=9 #  # 10
 trial 1 --block=3 #  # 14
