@@ -1,1 +1,2 @@
 pub mod PieceJoins
+pub mod LineSearches

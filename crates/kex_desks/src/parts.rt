@@ -1,6 +1,7 @@
 // The parts of a piece: each begins behind a line end, and ends behind one.
 
-ghost use Rattle.std.specs.Prelude.{◌≡◌, ◌≤◌, ◌<◌, ◌-◌, ◌+◌, IfSome, length, min, slice_index_or};
+ghost use Rattle.std.specs.Prelude.{◌≡◌, ◌≤◌, ◌<◌, ◌-◌, ◌+◌, ℕ, IfSome, length, slice_index_or};
+ghost use Rattle.kex_desks.specs.PartCuts.{IsBehindNext, even_cut};
 
 use memchr::{memchr, memrchr};
 
@@ -21,8 +22,7 @@ pub struct PartBounds {
 // The place behind the first line end from a place on.
 fn behind_next(piece: &[u8], from: usize) -> Option<usize>
     requires { from ≤ length piece.now }
-    ensures within { IfSome result (λ at. (from < at) × (at ≤ length piece.now)) }
-    ensures line { IfSome result (λ at. slice_index_or piece.now (at - 1) 0 ≡ 10) }
+    ensures { IfSome result (λ at. IsBehindNext piece.now from at) }
 {
     match memchr(LINE_END, &piece[from..]) {
         None => None,
@@ -43,11 +43,12 @@ fn behind_last(piece: &[u8], end: usize) -> Option<usize>
 }
 
 // Where part k of so many ends that are of even length, counted from 1.
-fn cut_of(length: usize, k: u32, of: u32) -> usize
+fn cut_of(bytes: usize, k: u32, of: u32) -> usize
     requires { (0 < of) × (k ≤ of) }
-    ensures { result ≤ length }
+    ensures within { result ≤ bytes }
+    ensures even { result ≡ even_cut bytes k of }
 {
-    length / of as usize * k as usize + (k as usize).min(length % of as usize)
+    bytes / of as usize * k as usize + (k as usize).min(bytes % of as usize)
 }
 
 /// How much of a piece is before its last line end, and with it.
@@ -72,8 +73,13 @@ fn trial_of(bytes: usize) -> usize
 /// it.
 pub fn part_bounds(piece: &[u8], k: u32, of: u32, whole: bool) -> Option<PartBounds>
     requires { (1 ≤ k) × (k ≤ of) }
-    ensures { IfSome result (λ p. (p.before ≤ p.from) × (p.from < p.to)
+    ensures within { IfSome result (λ p. (p.before ≤ p.from) × (p.from < p.to)
         × (p.to ≤ length piece.now)) }
+    // The parts are as even as lines let them be.
+    ensures begins { IfSome result (λ p. 1 < k
+        → IsBehindNext piece.now (even_cut (length piece.now) (k - 1) of) p.from) }
+    ensures ends { IfSome result (λ p. k < of → (at : ℕ)
+        → IsBehindNext piece.now (even_cut (length piece.now) k of) at → p.to ≤ at) }
 {
     let cut = cut_of(piece.len(), k - 1, of);
     let before = if k == 1 {
