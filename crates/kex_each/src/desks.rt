@@ -1,7 +1,7 @@
 // Desks that share lines out among threads.
 
-ghost use Rattle.std.specs.Prelude.{◌≡◌, ◌+◌, ◌-◌, ◌≤◌, ◌<◌, ◌^◌, ◌++◌, [], IfOk, OnOk, is_ok};
-ghost use Rattle.std.specs.Prelude.{length, map};
+ghost use Rattle.std.specs.Prelude.{◌≡◌, ◌+◌, ◌-◌, ◌*◌, ◌/◌, ◌%◌, ◌≤◌, ◌<◌, ◌^◌, ◌++◌, []};
+ghost use Rattle.std.specs.Prelude.{IfOk, OnOk, is_ok, length, map, min};
 ghost use Rattle.std.specs.List.{concat};
 ghost use Rattle.std.specs.Thread.{IsSync};
 ghost use Rattle.kex_each.specs.Answers.{PlansAnswerLines, plans_within};
@@ -46,7 +46,8 @@ fn work_one<D: LineDesk, G: Gate>(
 // and the others have a line each left.
 fn share_of(lines: usize, desks: usize, first: usize) -> usize
     requires { (0 < desks) × (desks ≤ lines) × (first ≤ desks) }
-    ensures { (first ≤ result) × (result + (desks - first) ≤ lines) }
+    ensures some { (first ≤ result) × (result + (desks - first) ≤ lines) }
+    ensures even { result ≡ lines / desks * first + min (lines % desks) first }
 {
     lines / desks * first + (lines % desks).min(first)
 }

@@ -25,7 +25,7 @@ returns-in_err-one g t c =
     let lines = c.args.lines.now in
     let cut = c.args.from + c.share_of.result in
     let low : c.args.from ≤ cut = omega arith in
-    let high : cut ≤ c.args.to = (let w = c.requires.within in let s = c.share_of.ensures in omega (arith, w, s)) in
+    let high : cut ≤ c.args.to = (let w = c.requires.within in let s = c.share_of.ensures.some in omega (arith, w, s)) in
     let front : AllWorked (is_ok c.join_mut-one.result.0) (lines_between c.args.from cut lines) (map f h.result.0.now) (map f c.front-1.given.0) = search rules in
     let back : AllWorked (is_ok c.join_mut-one.result.1) (lines_between cut c.args.to lines) (map f h.result.1.now) (map f c.back-1.given.0) = search rules in
     let both = both_worked _ _ (lines_between c.args.from cut lines) (lines_between cut c.args.to lines) (map f h.result.0.now) (map f c.front-1.given.0) (map f h.result.1.now) (map f c.back-1.given.0) front back in
@@ -43,7 +43,7 @@ returns g t c =
     let lines = c.args.lines.now in
     let cut = c.args.from + c.share_of.result in
     let low : c.args.from ≤ cut = omega arith in
-    let high : cut ≤ c.args.to = (let w = c.requires.within in let s = c.share_of.ensures in omega (arith, w, s)) in
+    let high : cut ≤ c.args.to = (let w = c.requires.within in let s = c.share_of.ensures.some in omega (arith, w, s)) in
     let front : AllWorked (is_ok c.join_mut-one.result.0) (lines_between c.args.from cut lines) (map f h.result.0.now) (map f c.front-1.given.0) = search rules in
     let back : AllWorked (is_ok c.join_mut-one.result.1) (lines_between cut c.args.to lines) (map f h.result.1.now) (map f c.back-1.given.0) = search rules in
     let both = both_worked _ _ (lines_between c.args.from cut lines) (lines_between cut c.args.to lines) (map f h.result.0.now) (map f c.front-1.given.0) (map f h.result.1.now) (map f c.back-1.given.0) front back in
