@@ -60,7 +60,11 @@ impl<T: Turn + Drop> AnyPipe<T> {
     }
 
     /// The same, of stages that take turns.
-    pub(crate) fn in_turns(alloc: Global, stages: Vec<T>) -> Result<AnyPipe<T>, Memory>
+    pub(crate) fn in_turns(
+        alloc: Global,
+        stages: Vec<T>,
+        sharing: Sharing,
+    ) -> Result<AnyPipe<T>, Memory>
         requires some { 0 < vec_len stages }
         requires unfed { All (λ s. T.stands s None) stages.items }
         ensures stands { IfOk result (λ pipe.
@@ -70,7 +74,7 @@ impl<T: Turn + Drop> AnyPipe<T> {
     {
         Ok(AnyPipe::Turns {
             pipe: Pipe::new(alloc, stages)?,
-            sharing: Sharing::new(),
+            sharing,
         })
     }
 
@@ -160,7 +164,7 @@ pub(crate) fn work_off<R: Threads + Sync, T: Limited + Drop + Send, G: Gate + Sy
     match pipe {
         AnyPipe::Rounds(pipe) => rounds::work_off(rt, pipe, gate),
         AnyPipe::Turns { pipe, sharing } => {
-            turns::work_off(rt, pipe, gate, sharing.least())?;
+            turns::work_off(rt, pipe, gate, sharing)?;
             Ok(())
         }
         AnyPipe::Rings { pipe, work } => {

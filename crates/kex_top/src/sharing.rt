@@ -3,21 +3,81 @@ ghost use Rattle.std.specs.Prelude.{◌<◌, ◌≤◌};
 
 use crate::piece_length::PieceLength;
 use crate::rounds::MUCH;
+use kex_sst::table::Table;
+use kex_stage::plan::Plan;
 
-// A part of fewer bytes isn't worth a thread.
-const WORTH: usize = 16_384;
+// How many bytes of a piece are worth the start of a thread.
+const WORTH: usize = 65_536;
+
+// How many are where several stages read it.
+const WORTH_SEVERAL: usize = 30_720;
+
+// How many are where stages mostly hold text, so that bytes take more time.
+const WORTH_HELD: usize = 20_480;
+
+// How many more for each state: what is known of it comes to another processor with a thread.
+const WORTH_STATE: usize = 64;
 
 /// How long pieces are, so that each desk's part is long, and whether desks had one to share.
 #[derive(Clone, Copy)]
 pub(crate) struct Sharing {
     length: PieceLength,
+    worth: usize,
     begun: bool,
+    ghost worthy: { 0 < worth },
+}
+
+// Whether most states of a table hold text.
+fn holds_text(table: &Table) -> bool {
+    let mut holding: usize = 0;
+    for state in table.states() {
+        holding = holding.saturating_add(usize::from(state.registers() > 0));
+    }
+    holding > table.states().len() / 2
+}
+
+// Whether each of the stages with these plans mostly holds text.
+fn all_hold_text(plans: &[Plan]) -> bool {
+    for plan in plans {
+        match plan.shortest_table() {
+            Some(table) if holds_text(table) => {}
+            _ => return false,
+        }
+    }
+    true
+}
+
+// How many states the stages with these plans have.
+fn states_of(plans: &[Plan]) -> usize {
+    let mut states: usize = 0;
+    for plan in plans {
+        if let Some(table) = plan.shortest_table() {
+            states = states.saturating_add(table.states().len());
+        }
+    }
+    states
+}
+
+// How many bytes of a piece are worth the start of a thread, for the stages with these plans.
+fn worth_of(plans: &[Plan]) -> usize
+    ensures { 0 < result }
+{
+    let alone = if all_hold_text(plans) {
+        WORTH_HELD
+    } else if plans.len() > 1 {
+        WORTH_SEVERAL
+    } else {
+        WORTH
+    };
+    alone.saturating_add(states_of(plans).saturating_mul(WORTH_STATE))
 }
 
 impl Sharing {
-    pub(crate) fn new() -> Sharing {
+    /// For the stages with these plans.
+    pub(crate) fn of(plans: &[Plan]) -> Sharing {
         Sharing {
             length: PieceLength::new(MUCH),
+            worth: worth_of(plans),
             begun: false,
         }
     }
@@ -30,15 +90,20 @@ impl Sharing {
         self.length.bytes()
     }
 
-    /// The fewest bytes of a part. The first piece of a run that has two bytes is shared whatever
-    /// its length, so that desks meet in any run.
-    pub(crate) fn least(&self) -> usize
+    /// The fewest bytes of a part, where so many wait before a stage. One thread does without a
+    /// start, and each other one has enough bytes for it. The first piece of a run that has two
+    /// bytes is shared whatever its length, so that desks meet in any run.
+    pub(crate) fn least(&self, waiting: usize) -> usize
         ensures { 0 < result }
     {
-        if self.begun { WORTH } else { 1 }
+        if !self.begun {
+            return 1;
+        }
+        let parts = (waiting / self.worth).saturating_add(1);
+        (waiting / parts).max(1)
     }
 
-    /// So many bytes were given, and so many at most lay before a stage for them or are output.
+    /// Learns how many bytes were given, and how many at most lay before a stage for them or are output.
     pub(crate) fn learn(&mut self, given: usize, most: usize) {
         self.begun = self.begun || given > 1;
         self.length.learn(given, most);

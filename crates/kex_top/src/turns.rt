@@ -1,5 +1,5 @@
 // A program's stages take turns in their order, and desks work on parts of what each is to read.
-ghost use Rattle.std.specs.Prelude.{◌≡◌, ◌<◌, List, ℕ, IfOk, OnOk, false, take};
+ghost use Rattle.std.specs.Prelude.{◌≡◌, List, ℕ, IfOk, OnOk, false, take};
 ghost use Rattle.kex_model.specs.Schedules.{Event};
 ghost use Rattle.kex_pipe.specs.Standing.{Stands, is_ended, is_in_round};
 ghost use Rattle.kex_top.specs.Fronts.{IsFront};
@@ -14,15 +14,14 @@ use kex_rounds::desks::turn_in_parts;
 use std::thread::Threads;
 
 /// Each stage, in the order of the pipeline, takes a turn of all that waits before it, which desks
-/// share in parts of so many bytes at least. Tells how many bytes at most lay before one.
+/// share. Tells how many bytes at most lay before one.
 pub(crate) fn work_off<R: Threads + Sync, T: Limited + Drop, G: Gate + Sync>(
     rt: &R,
     pipe: &mut Pipe<T>,
     gate: &G,
-    least: usize,
+    sharing: &Sharing,
 ) -> Result<usize, PipeFault>
     requires closed { is_in_round T.Turn pipe.old ≡ false }
-    requires some { 0 < least }
     ensures works { OnOk result ((ps : List T.Plan) (h : List Event) (taken : List ℕ)
         → Stands T.Turn ps pipe.old h taken
         → IsWorkedOff T.gives ps (λ k. Stands T.Turn ps pipe.new k taken) h) }
@@ -32,8 +31,9 @@ pub(crate) fn work_off<R: Threads + Sync, T: Limited + Drop, G: Gate + Sync>(
     let count = pipe.count();
     let mut most = 0;
     'turns: for k in 0..count {
-        most = pipe.waiting(k + 1).len().max(most);
-        turn_in_parts(rt, pipe, gate, k + 1, least)?;
+        let waiting = pipe.waiting(k + 1).len();
+        most = waiting.max(most);
+        turn_in_parts(rt, pipe, gate, k + 1, sharing.least(waiting))?;
     }
     Ok(most)
 }
@@ -60,7 +60,7 @@ pub(crate) fn give_front<R: Threads + Sync, T: Limited + Drop, G: Gate + Sync>(
     'pieces: while given < bytes.len() {
         let end = bytes.len().min(given + sharing.piece());
         pipe.give(&bytes[given..end])?;
-        let most = work_off(rt, pipe, gate, sharing.least())?;
+        let most = work_off(rt, pipe, gate, sharing)?;
         sharing.learn(end - given, most.max(pipe.output_length()));
         given = end;
         if pace == Pace::Parts && is_due(pipe) {

@@ -11,6 +11,7 @@ ghost use Rattle.kex_top.specs.Run.{Ran};
 use crate::any_pipe::AnyPipe;
 use crate::pipeline::Limited;
 use crate::rounds::Pace;
+use crate::sharing::Sharing;
 use crate::status::Status;
 use crate::stream::run;
 use kex_chunk_stage::chunk_stage::ChunkStage;
@@ -69,7 +70,7 @@ pub(crate) fn chunk_pipe_of<'p>(
         (plans_of ⟦<ChunkStage<'p> as Turn>⟧ pipe))) }
 {
     let stages = chunk_stages_of(alloc, plans, max_input, workers)?;
-    let pipe = AnyPipe::in_turns(alloc, stages)?;
+    let pipe = AnyPipe::in_turns(alloc, stages, Sharing::of(plans))?;
     Ok(pipe)
 }
 

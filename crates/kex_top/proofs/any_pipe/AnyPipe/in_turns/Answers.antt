@@ -6,9 +6,9 @@ use Rattle.kex_top.proofs.any_pipe.AnyPipe.in_turns.Goals as goal
 
 pub returns-clause-plans : goal.returns-clause-plans
 returns-clause-plans g c =
-    same-plans g.T.Turn (map g.T.Turn.plan c.args.stages.items) (Turns c.in_ok-new.field-0 c.new-2.result) [] [] c.in_ok-new.ensures.stands
+    same-plans g.T.Turn (map g.T.Turn.plan c.args.stages.items) (Turns c.in_ok-new.field-0 c.args.sharing) [] [] c.in_ok-new.ensures.stands
 
 pub returns-clause-fresh : goal.returns-clause-fresh
 returns-clause-fresh g c =
     let long = length-map c.args.stages.items g.T.Turn.plan in
-    fresh-pipe g.T.Turn (map g.T.Turn.plan c.args.stages.items) (Turns c.in_ok-new.field-0 c.new-2.result) (omega (arith, long, c.args.stages.ok.0, c.requires.some)) c.in_ok-new.ensures.stands
+    fresh-pipe g.T.Turn (map g.T.Turn.plan c.args.stages.items) (Turns c.in_ok-new.field-0 c.args.sharing) (omega (arith, long, c.args.stages.ok.0, c.requires.some)) c.in_ok-new.ensures.stands
