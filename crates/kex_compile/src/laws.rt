@@ -1,4 +1,4 @@
-// Laws of compiling: what a text is answered doesn't hang on the numbers that the nodes, names and
+// Laws of compiling: what a text is answered isn't changed by the numbers that the nodes, names and
 // registers of its programs have.
 
 ghost use Rattle.std.specs.Prelude.{◌≡◌, ◌↔◌, ℕ, List};

@@ -1,6 +1,6 @@
 //! Program texts into plans.
 //!
-//! Stands on the reader, the rules and the passes. The contract of `compile` is the crate's
+//! Uses the reader, the rules and the passes. The contract of `compile` is the crate's
 //! promise: the plans answer as the program's stages do, and a text is refused for the first rule
 //! that it breaks.
 #![tactic(auto)]

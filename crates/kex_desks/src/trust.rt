@@ -2,10 +2,10 @@
 
 ghost use Rattle.std.specs.Prelude.{◌≡◌, ◌==◌, ◌&&◌, ◌||◌, not, false};
 
-// So many pieces in a row may be worked on in parts of which none is taken over.
+// After this many pieces in a row of whose parts none was taken over, desks rest.
 const PATIENCE: u32 = 8;
 
-// Then so many pieces at most are read without desks before the next try.
+// The most pieces for which they rest.
 const LONGEST_REST: u32 = 63;
 
 /// How many pieces were worked on in parts for nothing since one wasn't, and how many are still to

@@ -1,6 +1,6 @@
 //! What a program answers to each line of a text by itself.
 //!
-//! Stands on stages, which begin anew with each line. `Lines` finds the lines in the pieces of a
+//! Uses stages, which begin anew with each line. `Lines` finds the lines in the pieces of a
 //! text, a clerk answers one after the other, and desks share them out among threads; `LineAnswers`
 //! is all of that together.
 #![tactic(auto)]

@@ -33,8 +33,8 @@ fn work_one<T: Turn, G: Gate>(gate: &G, stage: u32, seat: &mut Seat<T>) -> Resul
     worked
 }
 
-/// So many bytes are no work for a thread yet: to start one takes as long as a stage takes for some
-/// thousand bytes, and longer on a busy machine.
+/// Up to this many bytes aren't worth a thread: to start one takes as long as a stage takes for
+/// some thousand bytes, and longer on a busy machine.
 const LITTLE: usize = 32_767;
 
 // Whether each of these stages had a turn, and no more than so many bytes wait before all of them.

@@ -82,7 +82,7 @@ abbrev pub IsComplete : Option Asked → Option Texts → ShelfChange → Stream
 IsComplete None texts shelf source sink = ⊥
 IsComplete (Some asked) texts shelf source sink = BreaksNoRule asked texts shelf source sink
 
--- With all told: the source was read to its end, and the sink holds what it held and then exactly
+-- With all told: the source was read to its end. The sink holds what it held and then exactly
 -- what a program means on the input that the text spells, or the table file holds: the meaning of
 -- each stage's greedy parse of what the stage before it wrote.
 pub record Headline (taken : Taken) (text : List ℕ) (limit : ℕ) (input before : List ℕ)

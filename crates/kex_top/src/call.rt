@@ -103,8 +103,8 @@ fn answer<R: Threads + Sync, G: Gate + Sync, H: Shelf, S: Source, K: Sink>(
 /// Does what the words ask for, and leaves a line in the notes. The words begin with the program's
 /// own name.
 ///
-/// `run` writes what the program means on the input: exactly the meaning of its greedy parse; where
-/// the input breaks off or has no parse, exactly what its surviving paths agreed on before the
+/// `run` writes what the program means on the input: exactly the meaning of its greedy parse. Where
+/// the input breaks off or has no parse it is exactly what its surviving paths agreed on before the
 /// first byte after which no continuation parses. Of a program of several stages each stage reads
 /// what the one before it wrote. `code` writes the code of the greedy parse, `act` what the input
 /// means as the code of a tree, and `test` only asks whether there is a parse, all of a program of

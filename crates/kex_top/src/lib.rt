@@ -1,6 +1,6 @@
-//! The command that runs a program over a source into a sink.
+//! The call `kex`: what each command does with its words, its texts, its input and its output.
 //!
-//! Stands on plans, stages and the outside's traits. The clauses of `kex` are the promise of the
+//! Uses plans, stages and the outside's traits. The clauses of `kex` are the promise of the
 //! whole program.
 #![tactic(auto)]
 

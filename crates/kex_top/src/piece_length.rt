@@ -38,7 +38,8 @@ impl PieceLength {
         self.bytes
     }
 
-    /// Learns how many bytes were given, and how many at most lay before a stage for them or are output.
+    /// Learns how many bytes were given, and how many at most lay before a stage for them or are
+    /// output.
     pub(crate) fn learn(&mut self, given: usize, most: usize) {
         if most > MUCH {
             self.bytes = (self.bytes / 2).max(FIRST);

@@ -27,7 +27,7 @@ pub(crate) enum Pace {
     Blocks,
 }
 
-// How many of so many bytes are given at once to so many stages. What a single stage says of them
+// How many bytes of `bytes` are given at once to `stages` stages. What a single stage says of them
 // is held, so they are few. Of several stages each may take a thread for them. So they are more,
 // and of many bytes a sixteenth: few beside all that is given.
 fn part_for(stages: u32, bytes: usize) -> usize

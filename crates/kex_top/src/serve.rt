@@ -1,4 +1,4 @@
-// The commands on an input.
+// The commands `run`, `code`, `act` and `test`; `exec` uses `run_stages`.
 ghost use Rattle.std.specs.Prelude.{◌≡◌, ◌<◌, ◌∷◌, [], All, IfOk, None, OnErr, true, false, length};
 ghost use Rattle.std.specs.Prelude.{map, vec_len};
 ghost use Rattle.kex_ports.specs.Reads.{last_given};

@@ -103,7 +103,8 @@ impl Sharing {
         (waiting / parts).max(1)
     }
 
-    /// Learns how many bytes were given, and how many at most lay before a stage for them or are output.
+    /// Learns how many bytes were given, and how many at most lay before a stage for them or are
+    /// output.
     pub(crate) fn learn(&mut self, given: usize, most: usize) {
         self.begun = self.begun || given > 1;
         self.length.learn(given, most);

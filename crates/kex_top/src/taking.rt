@@ -1,4 +1,4 @@
-// What commands take from the shelf. How long that may be is decided here alone.
+// What commands take from the shelf. `most` has its limit, as `most_taken` of `specs/Taken` says.
 ghost use Rattle.std.specs.Prelude.{◌≡◌, ◌≤◌, IfErr, IfOk, length};
 ghost use Rattle.kex_ports.specs.Shelf.{IsTold, told_of};
 ghost use Rattle.kex_top.specs.Refusals.{IsTooLong, IsUntaken};
