@@ -17,7 +17,7 @@ pub struct PartDraft<P> {
     pub text: Vec<u8>,
 }
 
-// ReadsPiece the line before a part, and notes where that leads. At false it leads nowhere.
+// Reads the line before a part, and notes where that leads. At false it leads nowhere.
 fn come_to<W: KnowsPlace>(
     worker: &mut W,
     sample: &W::Place,

@@ -12,7 +12,7 @@ use std::hash::{FoldHasher, Hasher};
 use std::marker::Model;
 
 /// Lists of parts by number. Equal ones are found by a hash of their parts; where two lists have
-/// one hash, the second isn't found again.
+/// one hash, the first isn't found again.
 #[derive(Drop)]
 pub struct Interned {
     alloc: Global,
