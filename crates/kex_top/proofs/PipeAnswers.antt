@@ -21,7 +21,7 @@ use Rattle.kex_top.specs.declared.any_pipe.AnyPipe.TheVariants.{Rounds, Turns, R
 use Rattle.kex_top.specs.Answer.{Said}
 use Rattle.kex_top.specs.History.{StagesFed, History, bytes_passed, history_text, is_history_ended, IsFateOfStages, FeedsStages}
 use Rattle.kex_top.specs.Piped as piped
-use Rattle.kex_top.specs.Piped.{plans_of, any_in_hand, is_any_in_round, AnyPipeStands, IsGiven, IsPipeSettled, IsWorkedOff, HasSaid, PipeStands}
+use Rattle.kex_top.specs.Piped.{plans_of, any_in_hand, is_any_in_round, is_any_spent, AnyPipeStands, IsGiven, IsPipeSettled, IsWorkedOff, HasSaid, PipeStands}
 use Rattle.kex_top.specs.PipelineLaws.{report-same}
 use Rattle.kex_top.specs.Pipelines.{StagesSay}
 use Rattle.kex_top.proofs.Schedules.{same-came, same-seats}
@@ -54,6 +54,11 @@ module _ {T : Type 0} (t : Ghosts T) where
   is-closed ps (Rounds pipe) h taken s = s.closed
   is-closed ps (Turns pipe sharing) h taken s = s.closed
   is-closed ps (Rings pipe work) h taken s = refl
+
+  is-going : (ps : List t.Plan) (pipe : AnyPipe T t) (h : List Event) (taken : List ℕ) → AnyPipeStands t ps pipe h taken → is_any_spent t pipe ≡ false
+  is-going ps (Rounds pipe) h taken s = s.going
+  is-going ps (Turns pipe sharing) h taken s = s.going
+  is-going ps (Rings pipe work) h taken s = s.going
 
   end-as-given : (ps : List t.Plan) (pipe : AnyPipe T t) (h : List Event) (taken : List ℕ) → AnyPipeStands t ps pipe h taken → piped.is_any_ended t pipe ≡ end_given h
   end-as-given ps (Rounds pipe) h taken s = s.same_end ∙ ap has_end (came-given t.gives s.after) ∙ end-items (bytes_given h) (end_given h)
@@ -88,6 +93,11 @@ module _ {T : Type 0} (t : Ghosts T) where
   not-in-round pipe h s =
       let x = standing pipe h s in
       is-closed (plans_of t pipe) pipe x.events (history_text h) x.stands
+
+  pub not-spent : (pipe : AnyPipe T t) (h : History) → PipeStands t pipe h → is_any_spent t pipe ≡ false
+  not-spent pipe h s =
+      let x = standing pipe h s in
+      is-going (plans_of t pipe) pipe x.events (history_text h) x.stands
 
   module _ (one : (p : t.Plan) (w : List ℕ) (e : Bool) (a b : Answer) → t.gives p w e a → t.gives p w e b → a ≡ b) where
     -- what is settled is so with whatever came and whatever seats that leaves

@@ -48,6 +48,11 @@ module _ {T : Type 0} (t : Ghosts T) where
   is_any_in_round (Turns pipe sharing) = by_rounds.is_in_round t pipe
   is_any_in_round (Rings pipe work) = false
 
+  abbrev pub is_any_spent : AnyPipe T t → Bool
+  is_any_spent (Rounds pipe) = by_rounds.is_spent t pipe
+  is_any_spent (Turns pipe sharing) = by_rounds.is_spent t pipe
+  is_any_spent (Rings pipe work) = by_rings.rings_spent t pipe
+
   -- the output that is in hand
   abbrev pub any_in_hand : AnyPipe T t → List ℕ
   any_in_hand (Rounds pipe) = by_rounds.in_hand t pipe

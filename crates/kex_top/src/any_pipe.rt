@@ -1,6 +1,6 @@
 // A pipe of a program's stages, which work by rounds, in turns or over rings.
-ghost use Rattle.std.specs.Prelude.{◌≡◌, ◌<◌, ◌++◌, ◌∷◌, [], List, ℕ, Some, None, All, IfOk, OnOk};
-ghost use Rattle.std.specs.Prelude.{false, take, map, vec_len};
+ghost use Rattle.std.specs.Prelude.{◌≡◌, ◌≢◌, ◌<◌, ◌++◌, ◌∷◌, [], List, ℕ, Some, None, All, Err};
+ghost use Rattle.std.specs.Prelude.{IfOk, OnOk, false, take, map, vec_len};
 ghost use Rattle.kex_model.specs.Answers.{Pipeline};
 ghost use Rattle.kex_model.specs.Schedules.{Event, give_end};
 ghost use Rattle.kex_pipe.specs.Events.{bytes_given, end_given};
@@ -8,7 +8,7 @@ ghost use Rattle.kex_pipe.specs.Reports.{report_as};
 ghost use Rattle.kex_top.specs.Fronts.{IsFront};
 ghost use Rattle.kex_top.specs.Piped.{AnyPipeStands, IsGiven, IsPipeSettled, IsWorkedOff};
 ghost use Rattle.kex_top.specs.Piped.{PipeStands, any_in_hand, is_any_ended, is_any_in_round};
-ghost use Rattle.kex_top.specs.Piped.{plans_of};
+ghost use Rattle.kex_top.specs.Piped.{is_any_spent, plans_of};
 
 use crate::pipeline::Limited;
 use crate::rings::RingWork;
@@ -82,10 +82,13 @@ impl<T: Turn + Drop> AnyPipe<T> {
     pub(crate) fn give_end(&mut self) -> Result<(), PipeFault>
         requires unended { is_any_ended T.Turn self.old ≡ false }
         requires closed { is_any_in_round T.Turn self.old ≡ false }
+        requires going { is_any_spent T.Turn self.old ≡ false }
         ensures stands { OnOk result ((ps : List T.Plan) (h : List Event) (taken : List ℕ)
             → AnyPipeStands T.Turn ps self.old h taken
             → AnyPipeStands T.Turn ps self.new (h ++ give_end ∷ []) taken) }
         ensures closed { is_any_in_round T.Turn self.new ≡ false }
+        ensures going { OnOk result (is_any_spent T.Turn self.new ≡ false) }
+        ensures wants { result ≢ Err PipeFault.Spent }
     {
         match self {
             AnyPipe::Rounds(pipe) => pipe.give_end(),
@@ -134,11 +137,14 @@ pub(crate) fn give_front<R: Threads + Sync, T: Limited + Drop + Send, G: Gate + 
 ) -> Result<usize, PipeFault>
     requires unended { is_any_ended T.Turn pipe.old ≡ false }
     requires closed { is_any_in_round T.Turn pipe.old ≡ false }
+    requires going { is_any_spent T.Turn pipe.old ≡ false }
     ensures front { IfOk result (λ count. IsFront pace bytes.now count) }
     ensures given { IfOk result (λ count. (ps : List T.Plan) (h : List Event) (taken : List ℕ)
         → AnyPipeStands T.Turn ps pipe.old h taken
         → IsGiven (λ k. AnyPipeStands T.Turn ps pipe.new k taken) (take count bytes.now) h) }
     ensures closed { is_any_in_round T.Turn pipe.new ≡ false }
+    ensures going { OnOk result (is_any_spent T.Turn pipe.new ≡ false) }
+    ensures wants { result ≢ Err PipeFault.Spent }
 {
     match pipe {
         AnyPipe::Rounds(pipe) => rounds::give_front(rt, pipe, gate, pace, bytes),
@@ -156,10 +162,13 @@ pub(crate) fn work_off<R: Threads + Sync, T: Limited + Drop + Send, G: Gate + Sy
     gate: &G,
 ) -> Result<(), PipeFault>
     requires closed { is_any_in_round T.Turn pipe.old ≡ false }
+    requires going { is_any_spent T.Turn pipe.old ≡ false }
     ensures works { OnOk result ((ps : List T.Plan) (h : List Event) (taken : List ℕ)
         → AnyPipeStands T.Turn ps pipe.old h taken
         → IsWorkedOff T.gives ps (λ k. AnyPipeStands T.Turn ps pipe.new k taken) h) }
     ensures closed { is_any_in_round T.Turn pipe.new ≡ false }
+    ensures going { OnOk result (is_any_spent T.Turn pipe.new ≡ false) }
+    ensures wants { result ≢ Err PipeFault.Spent }
 {
     match pipe {
         AnyPipe::Rounds(pipe) => rounds::work_off(rt, pipe, gate),

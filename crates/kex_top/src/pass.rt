@@ -13,7 +13,6 @@ use crate::any_pipe::AnyPipe;
 use crate::pipeline::{Limited, end, feed};
 use crate::rounds::Pace;
 use kex_code::memory::Memory;
-use kex_pipe::pipe::PipeFault;
 use kex_pipe::turn::Fate;
 use kex_ports::{Failed, Gate, Sink};
 use kex_words::write_all;
@@ -23,15 +22,6 @@ use std::thread::Threads;
 pub(crate) enum Trouble {
     Memory,
     Write,
-}
-
-// A pipe that stands for what was fed isn't spent, so it wants memory.
-impl From<PipeFault> for Trouble {
-    ghost from_gives = { λ _ e. e ≡ trouble.Memory };
-
-    fn from(_: PipeFault) -> Trouble {
-        Trouble::Memory
-    }
 }
 
 impl From<Memory> for Trouble {

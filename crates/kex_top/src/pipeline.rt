@@ -1,6 +1,6 @@
 // The stages of a program, fed piece by piece.
-ghost use Rattle.std.specs.Prelude.{◌≡◌, ◌<◌, ◌++◌, List, ℕ, Some, IsSome, OnOk, IfOk, false, true};
-ghost use Rattle.std.specs.Prelude.{length, take};
+ghost use Rattle.std.specs.Prelude.{◌≡◌, ◌≢◌, ◌<◌, ◌++◌, List, ℕ, Some, IsSome, OnOk, IfOk, Err};
+ghost use Rattle.std.specs.Prelude.{false, true, length, take};
 ghost use Rattle.std.proofs.Common.{ap};
 ghost use Rattle.kex_stage.specs.StageLaws.{answering};
 ghost use Rattle.kex_model.specs.Answers.{Answer};
@@ -14,6 +14,7 @@ use crate::plain::{NoDesk, Plain};
 use crate::rounds::Pace;
 use kex_chunk_stage::chunk_stage::ChunkStage;
 use kex_chunk_stage::stage_desk::StageDesk;
+use kex_code::memory::Memory;
 use kex_pipe::parted::{PartDesk, Parted};
 use kex_pipe::pipe::PipeFault;
 use kex_pipe::report::Rejected;
@@ -75,11 +76,9 @@ pub(crate) struct Front {
     pub(crate) fate: Fate,
 }
 
-/// Feeds a front of the piece, and puts into `out`, in place of what it held, what the stages say
-/// now of the bytes and haven't said yet.
-///
-/// Once a call has answered Err, the pipe may only be dropped.
-pub(crate) fn feed<R: Threads + Sync, T: Limited + Drop + Send, G: Gate + Sync>(
+// Feeds a front of the piece to a pipe, and puts into `out`, in place of what it held, what the
+// stages say now.
+fn feed_pipe<R: Threads + Sync, T: Limited + Drop + Send, G: Gate + Sync>(
     rt: &R,
     gate: &G,
     pipe: &mut AnyPipe<T>,
@@ -94,6 +93,7 @@ pub(crate) fn feed<R: Threads + Sync, T: Limited + Drop + Send, G: Gate + Sync>(
         → is_history_ended h ≡ false
         → FeedsStages (PipeSays T.Turn (plans_of T.Turn pipe.old)) (PipeStands T.Turn pipe.new) h
         (bytes_passed h ++ take front.count piece.now) false out.new.items front.fate) }
+    ensures wants { result ≢ Err PipeFault.Spent }
 {
     let count = give_front(rt, pipe, gate, pace, piece)?;
     work_off(rt, pipe, gate)?;
@@ -104,8 +104,8 @@ pub(crate) fn feed<R: Threads + Sync, T: Limited + Drop + Send, G: Gate + Sync>(
     })
 }
 
-/// The same, for the end of the bytes.
-pub(crate) fn end<R: Threads + Sync, T: Limited + Drop + Send, G: Gate + Sync>(
+// The same, for the end of the bytes.
+fn end_pipe<R: Threads + Sync, T: Limited + Drop + Send, G: Gate + Sync>(
     rt: &R,
     gate: &G,
     pipe: &mut AnyPipe<T>,
@@ -117,11 +117,68 @@ pub(crate) fn end<R: Threads + Sync, T: Limited + Drop + Send, G: Gate + Sync>(
         → is_history_ended h ≡ false
         → FeedsStages (PipeSays T.Turn (plans_of T.Turn pipe.old)) (PipeStands T.Turn pipe.new) h
         (bytes_passed h) true out.new.items fate) }
+    ensures wants { result ≢ Err PipeFault.Spent }
 {
     pipe.give_end()?;
     work_off(rt, pipe, gate)?;
     pipe.take_output_into(out);
     Ok(fate_of(pipe.report()))
+}
+
+// What a pipe that isn't spent wants.
+fn want_of(fault: PipeFault) -> Memory
+    requires { fault ≢ PipeFault.Spent }
+{
+    match fault {
+        PipeFault::Memory => Memory,
+        PipeFault::Spent => unreachable!(),
+    }
+}
+
+/// Feeds a front of the piece, and puts into `out`, in place of what it held, what the stages say
+/// now of the bytes and haven't said yet.
+///
+/// Once a call has answered Err, the pipe may only be dropped.
+pub(crate) fn feed<R: Threads + Sync, T: Limited + Drop + Send, G: Gate + Sync>(
+    rt: &R,
+    gate: &G,
+    pipe: &mut AnyPipe<T>,
+    pace: Pace,
+    piece: &[u8],
+    out: &mut Vec<u8>,
+) -> Result<Front, Memory>
+    requires { (h : History) × PipeStands T.Turn pipe.old h × (is_history_ended h ≡ false) }
+    ensures same { OnOk result (plans_of T.Turn pipe.new ≡ plans_of T.Turn pipe.old) }
+    ensures front { IfOk result (λ front. IsFront pace piece.now front.count) }
+    ensures feeds { IfOk result (λ front. (h : History) → PipeStands T.Turn pipe.old h
+        → is_history_ended h ≡ false
+        → FeedsStages (PipeSays T.Turn (plans_of T.Turn pipe.old)) (PipeStands T.Turn pipe.new) h
+        (bytes_passed h ++ take front.count piece.now) false out.new.items front.fate) }
+{
+    match feed_pipe(rt, gate, pipe, pace, piece, out) {
+        Ok(front) => Ok(front),
+        Err(fault) => Err(want_of(fault)),
+    }
+}
+
+/// The same, for the end of the bytes.
+pub(crate) fn end<R: Threads + Sync, T: Limited + Drop + Send, G: Gate + Sync>(
+    rt: &R,
+    gate: &G,
+    pipe: &mut AnyPipe<T>,
+    out: &mut Vec<u8>,
+) -> Result<Fate, Memory>
+    requires { (h : History) × PipeStands T.Turn pipe.old h × (is_history_ended h ≡ false) }
+    ensures same { OnOk result (plans_of T.Turn pipe.new ≡ plans_of T.Turn pipe.old) }
+    ensures feeds { IfOk result (λ fate. (h : History) → PipeStands T.Turn pipe.old h
+        → is_history_ended h ≡ false
+        → FeedsStages (PipeSays T.Turn (plans_of T.Turn pipe.old)) (PipeStands T.Turn pipe.new) h
+        (bytes_passed h) true out.new.items fate) }
+{
+    match end_pipe(rt, gate, pipe, out) {
+        Ok(fate) => Ok(fate),
+        Err(fault) => Err(want_of(fault)),
+    }
 }
 
 /// The report of what was fed.

@@ -1,7 +1,7 @@
 // A program's stages take what they are given over rings.
-ghost use Rattle.std.specs.Prelude.{◌≡◌, List, ℕ, IfOk, OnOk, false, take};
+ghost use Rattle.std.specs.Prelude.{◌≡◌, ◌≢◌, List, ℕ, Err, IfOk, OnOk, false, take};
 ghost use Rattle.kex_model.specs.Schedules.{Event};
-ghost use Rattle.kex_rings.specs.Standing.{RingsStand, rings_ended};
+ghost use Rattle.kex_rings.specs.Standing.{RingsStand, rings_ended, rings_spent};
 ghost use Rattle.kex_top.specs.Fronts.{IsFront};
 ghost use Rattle.kex_top.specs.Piped.{IsGiven, IsWorkedOff};
 
@@ -57,10 +57,13 @@ pub(crate) fn work_off<R: Threads + Sync, T: Turn + Drop + Send, G: Gate + Sync>
     gate: &G,
     work: &mut RingWork,
 ) -> Result<usize, PipeFault>
+    requires { rings_spent T.Turn pipe.old ≡ false }
     ensures works { OnOk result ((ps : List T.Plan) (h : List Event) (taken : List ℕ)
         → RingsStand T.Turn ps pipe.old h taken
         → IsWorkedOff T.gives ps (λ k. RingsStand T.Turn ps pipe.new k taken) h) }
     ensures ended { OnOk result (rings_ended T.Turn pipe.new ≡ rings_ended T.Turn pipe.old) }
+    ensures going { OnOk result (rings_spent T.Turn pipe.new ≡ false) }
+    ensures wants { result ≢ Err PipeFault.Spent }
 {
     let mut most = 0;
     if pipe.settled() {
@@ -88,10 +91,13 @@ pub(crate) fn give_front<R: Threads + Sync, T: Turn + Drop + Send, G: Gate + Syn
     bytes: &[u8],
 ) -> Result<usize, PipeFault>
     requires unended { rings_ended T.Turn pipe.old ≡ false }
+    requires going { rings_spent T.Turn pipe.old ≡ false }
     ensures front { IfOk result (λ count. IsFront pace bytes.now count) }
     ensures given { IfOk result (λ count. (ps : List T.Plan) (h : List Event) (taken : List ℕ)
         → RingsStand T.Turn ps pipe.old h taken
         → IsGiven (λ k. RingsStand T.Turn ps pipe.new k taken) (take count bytes.now) h) }
+    ensures going { OnOk result (rings_spent T.Turn pipe.new ≡ false) }
+    ensures wants { result ≢ Err PipeFault.Spent }
 {
     let mut given = 0;
     'pieces: while given < bytes.len() {

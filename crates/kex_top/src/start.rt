@@ -5,7 +5,6 @@ ghost use Rattle.kex_top.specs.declared.start.StartError.TheVariants as start;
 
 use crate::status::Status;
 use kex_code::memory::Memory;
-use kex_pipe::pipe::PipeFault;
 use kex_words::{Refusal, WordsRefusal};
 
 /// Why a command doesn't begin. Nothing is read or written then.
@@ -35,15 +34,6 @@ impl From<Memory> for StartError {
     ghost from_gives = { λ _ e. e ≡ start.Memory };
 
     fn from(_: Memory) -> StartError {
-        StartError::Memory
-    }
-}
-
-// A pipe that stands for what was fed isn't spent, so it wants memory.
-impl From<PipeFault> for StartError {
-    ghost from_gives = { λ _ e. e ≡ start.Memory };
-
-    fn from(_: PipeFault) -> StartError {
         StartError::Memory
     }
 }

@@ -32,8 +32,8 @@ use crate::start::StartError;
 use crate::status::Status;
 use crate::tally::Tally;
 use crate::workers::chunk_pipe_of;
+use kex_code::memory::Memory;
 use kex_compile::compiled::Compiled;
-use kex_pipe::pipe::PipeFault;
 use kex_ports::{Failed, Gate, Sink};
 use kex_stage::plan::Plan;
 use kex_words::{TrialCounts, TrialLines, write_trial_counts};
@@ -55,7 +55,7 @@ fn give<R: Threads + Sync, T: Limited + Drop + Send, G: Gate + Sync>(
     piece: &[u8],
     out: &mut Vec<u8>,
     tally: Tally,
-) -> Result<Tally, PipeFault>
+) -> Result<Tally, Memory>
     requires { (h : History) × PipeStands T.Turn pipe.old h × (is_history_ended h ≡ false) }
     ensures same { OnOk result (plans_of T.Turn pipe.new ≡ plans_of T.Turn pipe.old) }
     ensures counts { IfOk result (λ more. (h : History) → PipeStands T.Turn pipe.old h
@@ -74,7 +74,7 @@ fn give_end<R: Threads + Sync, T: Limited + Drop + Send, G: Gate + Sync>(
     pipe: &mut AnyPipe<T>,
     out: &mut Vec<u8>,
     tally: Tally,
-) -> Result<Tally, PipeFault>
+) -> Result<Tally, Memory>
     requires { (h : History) × PipeStands T.Turn pipe.old h × (is_history_ended h ≡ false) }
     ensures same { OnOk result (plans_of T.Turn pipe.new ≡ plans_of T.Turn pipe.old) }
     ensures counts { IfOk result (λ more. (h : History) → PipeStands T.Turn pipe.old h
@@ -103,7 +103,7 @@ fn give_blocks<R: Threads + Sync, T: Limited + Drop + Send, G: Gate + Sync>(
     block: usize,
     out: &mut Vec<u8>,
     tally: Tally,
-) -> Result<Tally, PipeFault>
+) -> Result<Tally, Memory>
     requires block { 0 < block }
     requires fed { (all : List ℕ) × HasWaiting (PipeSays T.Turn (plans_of T.Turn pipe.old))
         (PipeStands T.Turn pipe.old) all waiting.old.items tally }
@@ -128,7 +128,7 @@ fn give_lines<R: Threads + Sync, T: Limited + Drop + Send, G: Gate + Sync>(
     alloc: Global,
     pipe: &mut AnyPipe<T>,
     lines: TrialLines,
-) -> Result<Tally, PipeFault>
+) -> Result<Tally, Memory>
     requires { PipeStands T.Turn pipe.old None }
     ensures { IfOk result (λ tally.
         SumsUp (PipeSays T.Turn (plans_of T.Turn pipe.old)) (made_lines lines.count) tally) }
@@ -161,7 +161,7 @@ fn run_lines<R: Threads + Sync, G: Gate + Sync>(
     alloc: Global,
     plans: &[Plan],
     lines: TrialLines,
-) -> Result<Tally, PipeFault>
+) -> Result<Tally, Memory>
     requires some { 0 < length plans.now }
     requires tables { All (λ p. p.table ≡ None → ⊥) plans.now }
     ensures { IfOk result (λ tally.
@@ -183,7 +183,7 @@ fn sum_up<R: Threads + Sync, G: Gate + Sync>(
     alloc: Global,
     compiled: &Compiled,
     lines: TrialLines,
-) -> Result<TrialCounts, PipeFault>
+) -> Result<TrialCounts, Memory>
     requires some { 0 < length compiled.now.stages }
     requires agreed { compiled.now.telling ≡ telling.Agreed }
     requires tables { All (λ o. o ≡ None → ⊥) compiled.now.tables }

@@ -1,7 +1,7 @@
 // A program's stages take turns in their order, and desks work on parts of what each is to read.
-ghost use Rattle.std.specs.Prelude.{◌≡◌, List, ℕ, IfOk, OnOk, false, take};
+ghost use Rattle.std.specs.Prelude.{◌≡◌, ◌≢◌, List, ℕ, Err, IfOk, OnOk, false, take};
 ghost use Rattle.kex_model.specs.Schedules.{Event};
-ghost use Rattle.kex_pipe.specs.Standing.{Stands, is_ended, is_in_round};
+ghost use Rattle.kex_pipe.specs.Standing.{Stands, is_ended, is_in_round, is_spent};
 ghost use Rattle.kex_top.specs.Fronts.{IsFront};
 ghost use Rattle.kex_top.specs.Piped.{IsGiven, IsWorkedOff};
 
@@ -22,11 +22,14 @@ pub(crate) fn work_off<R: Threads + Sync, T: Limited + Drop, G: Gate + Sync>(
     sharing: &Sharing,
 ) -> Result<usize, PipeFault>
     requires closed { is_in_round T.Turn pipe.old ≡ false }
+    requires going { is_spent T.Turn pipe.old ≡ false }
     ensures works { OnOk result ((ps : List T.Plan) (h : List Event) (taken : List ℕ)
         → Stands T.Turn ps pipe.old h taken
         → IsWorkedOff T.gives ps (λ k. Stands T.Turn ps pipe.new k taken) h) }
     ensures ended { OnOk result (is_ended T.Turn pipe.new ≡ is_ended T.Turn pipe.old) }
     ensures closed { is_in_round T.Turn pipe.new ≡ false }
+    ensures going { OnOk result (is_spent T.Turn pipe.new ≡ false) }
+    ensures wants { result ≢ Err PipeFault.Spent }
 {
     let count = pipe.count();
     let mut most = 0;
@@ -50,11 +53,14 @@ pub(crate) fn give_front<R: Threads + Sync, T: Limited + Drop, G: Gate + Sync>(
 ) -> Result<usize, PipeFault>
     requires unended { is_ended T.Turn pipe.old ≡ false }
     requires closed { is_in_round T.Turn pipe.old ≡ false }
+    requires going { is_spent T.Turn pipe.old ≡ false }
     ensures front { IfOk result (λ count. IsFront pace bytes.now count) }
     ensures given { IfOk result (λ count. (ps : List T.Plan) (h : List Event) (taken : List ℕ)
         → Stands T.Turn ps pipe.old h taken
         → IsGiven (λ k. Stands T.Turn ps pipe.new k taken) (take count bytes.now) h) }
     ensures closed { is_in_round T.Turn pipe.new ≡ false }
+    ensures going { OnOk result (is_spent T.Turn pipe.new ≡ false) }
+    ensures wants { result ≢ Err PipeFault.Spent }
 {
     let mut given = 0;
     'pieces: while given < bytes.len() {

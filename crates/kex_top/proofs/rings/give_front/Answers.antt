@@ -10,6 +10,7 @@ pieces-init g c = record {
   within = omega arith;
   given = λ ps h taken s. none-given g.T.Turn ps h taken c.args.pipe.now s;
   unended = c.requires.unended;
+  going = c.requires.going;
 }
 
 pub pieces-preserved : goal.pieces-preserved
@@ -28,6 +29,7 @@ pieces-preserved g c =
           (λ k st. c.in_ok-most.ensures.works ps (k ++ give part ∷ []) taken (c.in_ok-give.ensures.stands ps k taken st))
           (l.invariant.given ps h taken s);
       unended = c.in_ok-most.ensures.ended ∙ c.give.ensures.ended ∙ l.invariant.unended;
+      going = c.in_ok-most.ensures.going;
     }
 
 pub returns-then-written-ge-ENOUGH-clause-given : goal.returns-then-written-ge-ENOUGH-clause-given

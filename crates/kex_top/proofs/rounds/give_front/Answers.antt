@@ -1,4 +1,4 @@
-use Rattle.std.proofs.Common.{◌++◌, ◌∷◌, [], ◌∙◌, ◌-◌, ◌≤◌, ℕ, List, take, drop, arith, length}
+use Rattle.std.proofs.Common.{rules, ◌++◌, ◌∷◌, [], ◌∙◌, ◌-◌, ◌≤◌, ℕ, List, take, drop, arith, length}
 use Rattle.std.specs.List.{range_with_len}
 use Rattle.std.proofs.lemmas.List.Sorted.{IsPermutation-refl}
 use Rattle.kex_model.specs.Schedules.{give}
@@ -14,6 +14,7 @@ parts-init g c =
       given = λ ps h taken s. none-given g.T.Turn ps h taken c.args.pipe.now s;
       unended = c.requires.unended;
       closed = c.requires.closed;
+      going = c.requires.going;
     }
 
 pub parts-preserved : goal.parts-preserved
@@ -34,6 +35,7 @@ parts-preserved g c =
           (l.invariant.given ps h taken s);
       unended = c.round.ensures.ended ∙ c.give.ensures.ended ∙ l.invariant.unended;
       closed = c.round.ensures.closed;
+      going = search rules;
     }
 
 pub returns-then-is_due-clause-given : goal.returns-then-is_due-clause-given

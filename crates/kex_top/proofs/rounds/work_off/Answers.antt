@@ -16,6 +16,7 @@ rounds-preserved g c =
           (one-round t l._round l.pipe.seats.items order ps h taken l.pipe c.round.new.pipe (λ k st done. c.in_ok-round.ensures.settles ps k taken order l._round st (IsPermutation-refl order) done) (l.invariant.rounds ps h taken s));
       same_count = c.round.ensures.count ∙ l.invariant.same_count;
       closed = c.round.ensures.closed;
+      going = search rules;
     }
 
 pub returns-then-settled-clause-works : goal.returns-then-settled-clause-works

@@ -1,4 +1,4 @@
-use Rattle.std.proofs.Common.{◌++◌, ◌∷◌, [], ◌∙◌, ◌-◌, ◌≤◌, ℕ, List, take, drop, arith, length}
+use Rattle.std.proofs.Common.{rules, ◌++◌, ◌∷◌, [], ◌∙◌, ◌-◌, ◌≤◌, ℕ, List, take, drop, arith, length}
 use Rattle.kex_model.specs.Schedules.{give}
 use Rattle.kex_pipe.specs.Standing.{Stands}
 use Rattle.kex_top.proofs.StageRounds.{none-given, piece-given, front-more}
@@ -12,6 +12,7 @@ pieces-init g c =
       given = λ ps h taken s. none-given g.T.Turn ps h taken c.args.pipe.now s;
       unended = c.requires.unended;
       closed = c.requires.closed;
+      going = c.requires.going;
     }
 
 pub pieces-preserved : goal.pieces-preserved
@@ -31,6 +32,7 @@ pieces-preserved g c =
           (l.invariant.given ps h taken s);
       unended = c.in_ok-most.ensures.ended ∙ c.give.ensures.ended ∙ l.invariant.unended;
       closed = c.work_off.ensures.closed;
+      going = search rules;
     }
 
 pub returns-then-is_due-clause-given : goal.returns-then-is_due-clause-given

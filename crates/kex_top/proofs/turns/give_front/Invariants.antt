@@ -1,6 +1,6 @@
 use Rattle.std.proofs.Common.{◌≡◌, ◌≤◌, ◌-◌, ℕ, List, false, length, take}
 use Rattle.kex_model.specs.Schedules.{Event}
-use Rattle.kex_pipe.specs.Standing.{Stands, is_ended, is_in_round}
+use Rattle.kex_pipe.specs.Standing.{Stands, is_ended, is_in_round, is_spent}
 use Rattle.kex_top.specs.Piped.{IsGiven}
 use Rattle.kex_top.proofs.turns.give_front.Given as goal
 
@@ -13,4 +13,5 @@ invariant-pieces g l = record {
   given : (ps : List g.T.Turn.Plan) (h : List Event) (taken : List ℕ) → Stands g.T.Turn ps l.fn.pipe h taken → IsGiven (λ k. Stands g.T.Turn ps l.pipe k taken) (take l.given l.fn.bytes) h;
   unended : is_ended g.T.Turn l.pipe ≡ false;
   closed : is_in_round g.T.Turn l.pipe ≡ false;
+  going : is_spent g.T.Turn l.pipe ≡ false;
 }

@@ -1,4 +1,4 @@
-use Rattle.std.proofs.Common.{◌≡◌, ◌≤◌, ◌+◌, ◌-◌, ◌∙◌, ◌∷◌, [], ◌++◌, suc, length, subst, arith}
+use Rattle.std.proofs.Common.{rules, ◌≡◌, ◌≤◌, ◌+◌, ◌-◌, ◌∙◌, ◌∷◌, [], ◌++◌, suc, length, subst, arith}
 use Rattle.kex_pipe.specs.Rounds.{turn_of}
 use Rattle.kex_pipe.specs.Standing.{Stands}
 use Rattle.kex_top.proofs.StageRounds.{Rounding, all-rounds}
@@ -17,6 +17,7 @@ turns-preserved g c =
       same_count = c.turn_in_parts.ensures.count ∙ l.invariant.same_count;
       ended = c.turn_in_parts.ensures.ended ∙ l.invariant.ended;
       closed = c.turn_in_parts.ensures.closed;
+      going = search rules;
     }
 
 pub returns-clause-works : goal.returns-clause-works

@@ -1,6 +1,6 @@
 use Rattle.std.proofs.Common.{◌≡◌, ℕ, List, false}
 use Rattle.kex_model.specs.Schedules.{Event}
-use Rattle.kex_pipe.specs.Standing.{Stands, stage_count, is_ended, is_in_round}
+use Rattle.kex_pipe.specs.Standing.{Stands, stage_count, is_ended, is_in_round, is_spent}
 use Rattle.kex_top.proofs.StageRounds.{Rounding}
 use Rattle.kex_top.proofs.turns.work_off.Given as goal
 
@@ -10,4 +10,5 @@ invariant-turns g l = record {
   same_count : stage_count g.T.Turn l.pipe ≡ stage_count g.T.Turn l.fn.pipe;
   ended : is_ended g.T.Turn l.pipe ≡ is_ended g.T.Turn l.fn.pipe;
   closed : is_in_round g.T.Turn l.pipe ≡ false;
+  going : is_spent g.T.Turn l.pipe ≡ false;
 }

@@ -2,14 +2,17 @@ use Rattle.std.proofs.Common.{◌∷◌, [], ◌++◌, true, refl, ◌∙◌}
 use Rattle.kex_model.specs.Schedules.{give_end}
 use Rattle.kex_top.specs.History.{bytes_passed, history_text}
 use Rattle.kex_top.specs.Piped.{plans_of}
-use Rattle.kex_top.proofs.PipeAnswers.{not-in-round, standing, still-open, same-plans, said-all, bytes-same, end-now}
-use Rattle.kex_top.proofs.pipeline.end.Goals as goal
+use Rattle.kex_top.proofs.PipeAnswers.{not-in-round, not-spent, standing, still-open, same-plans, said-all, bytes-same, end-now}
+use Rattle.kex_top.proofs.pipeline.end_pipe.Goals as goal
 
 pub give_end-requires-clause-unended : goal.give_end-requires-clause-unended
 give_end-requires-clause-unended g c = still-open g.T.Turn c.args.pipe.now c.requires.0 c.requires.1 c.requires.2
 
 pub give_end-requires-clause-closed : goal.give_end-requires-clause-closed
 give_end-requires-clause-closed g c = not-in-round g.T.Turn c.args.pipe.now c.requires.0 c.requires.1
+
+pub give_end-requires-clause-going : goal.give_end-requires-clause-going
+give_end-requires-clause-going g c = not-spent g.T.Turn c.args.pipe.now c.requires.0 c.requires.1
 
 pub returns-clause-same : goal.returns-clause-same
 returns-clause-same g c =

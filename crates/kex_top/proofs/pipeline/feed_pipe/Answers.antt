@@ -2,15 +2,18 @@ use Rattle.std.proofs.Common.{◌∷◌, [], ◌++◌, ℕ, List, false, refl, s
 use Rattle.kex_model.specs.Schedules.{give}
 use Rattle.kex_top.specs.History.{bytes_passed, history_text}
 use Rattle.kex_top.specs.Piped.{AnyPipeStands, plans_of}
-use Rattle.kex_top.proofs.PipeAnswers.{not-in-round, standing, still-open, same-plans, said-all, bytes-more, end-open}
+use Rattle.kex_top.proofs.PipeAnswers.{not-in-round, not-spent, standing, still-open, same-plans, said-all, bytes-more, end-open}
 use Rattle.kex_top.proofs.StageRounds.{off-of}
-use Rattle.kex_top.proofs.pipeline.feed.Goals as goal
+use Rattle.kex_top.proofs.pipeline.feed_pipe.Goals as goal
 
 pub give_front-requires-clause-unended : goal.give_front-requires-clause-unended
 give_front-requires-clause-unended g c = λ κs bounds. still-open g.T.Turn c.args.pipe.now c.requires.0 c.requires.1 c.requires.2
 
 pub give_front-requires-clause-closed : goal.give_front-requires-clause-closed
 give_front-requires-clause-closed g c = λ κs bounds. not-in-round g.T.Turn c.args.pipe.now c.requires.0 c.requires.1
+
+pub give_front-requires-clause-going : goal.give_front-requires-clause-going
+give_front-requires-clause-going g c = λ κs bounds. not-spent g.T.Turn c.args.pipe.now c.requires.0 c.requires.1
 
 pub returns-clause-same : goal.returns-clause-same
 returns-clause-same g c =
