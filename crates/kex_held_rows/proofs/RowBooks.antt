@@ -40,7 +40,7 @@ note_wider : (t : Transducer) (nodes : List MNode) (rows more : List HeldRow) (r
 note_wider t nodes rows more r class Unknown p = tt
 note_wider t nodes rows more r class Plain p = tt
 note_wider t nodes rows more r class Stays p = p
-note_wider t nodes rows more r class (Goes e) p = (p.0, some_front rows more e.to p.0 p.1, p.2)
+note_wider t nodes rows more r class (Goes e) p = (p.0, some_front rows more e.to p.0 p.1, p.2, p.3)
 
 entry_wider : (t : Transducer) (g : Graph) (rows more : List HeldRow) (x : RowNotes) → IsEntryRight t g rows x → IsEntryRight t g (rows ++ more) x
 entry_wider t g rows more x p = record {

@@ -1,6 +1,6 @@
 -- Rows by number, and when what is known of them is right.
 use Rattle.std.specs.Prelude.{◌≡◌, ◌<◌, ℕ, List, [], ◌++◌, Some, All, map, length, slice_get}
-use Rattle.std.specs.Prelude.{get_or}
+use Rattle.std.specs.Prelude.{get_or, IsTrue}
 use Rattle.kex_byteset.specs.Classes.{class_count}
 use Rattle.kex_machine.specs.declared.MNode.{MNode}
 use Rattle.kex_machine.specs.Nodes.{Graph}
@@ -33,13 +33,15 @@ abbrev pub StaysAtRow : Transducer → List MNode → HeldRow → ℕ → Type 0
 StaysAtRow t nodes r class = (keep : List ℕ) × AreFirst keep
     × IsLearnt t nodes r class (record { to = r; outs = []; keep = keep })
 
--- where the row goes by an edge, that leads to a row of the list and is learnt
+-- where the row goes by an edge, that leads to a row of the list and is learnt, and is called bare
+-- only if that row holds nothing
 abbrev pub IsNoteRight : Transducer → List MNode → List HeldRow → HeldRow → ℕ → RowNote → Type 0
 IsNoteRight t nodes rows r class Unknown = Unit {0}
 IsNoteRight t nodes rows r class Plain = Unit {0}
 IsNoteRight t nodes rows r class Stays = StaysAtRow t nodes r class
 IsNoteRight t nodes rows r class (Goes e) = (to : HeldRow) × (slice_get rows e.to ≡ Some to)
     × IsLearnt t nodes r class (record { to = to; outs = e.outs; keep = e.keep })
+    × (IsTrue e.bare → to.lists ≡ [])
 
 -- a row of the table and the machine, with a right note for each class
 pub record IsEntryRight (t : Transducer) (g : Graph) (rows : List HeldRow)

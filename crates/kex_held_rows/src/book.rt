@@ -6,7 +6,7 @@ ghost use Rattle.kex_byteset.specs.Classes.{class_count};
 ghost use Rattle.kex_held.specs.HeldRows.{HeldRow};
 ghost use Rattle.kex_held.specs.LearntEdges.{IsRowWithin};
 ghost use Rattle.kex_held_rows.specs.declared.note.RowNote.TheVariants.{Unknown};
-ghost use Rattle.kex_held_rows.specs.Books.{RowNotes, rows_in, AreFirst, IsNoteRight, KeepsRows};
+ghost use Rattle.kex_held_rows.specs.Books.{RowNotes, rows_in, IsNoteRight, KeepsRows};
 
 use crate::note::{KnownEdge, KnownRow, RowNote};
 use crate::same::is_same_row;
@@ -103,18 +103,6 @@ fn head_of(heads: &mut [u32], state: u32, number: u32) -> u32 {
         Some(head) => mem::replace(head, number),
         None => NO_ROW,
     }
-}
-
-// Whether the points that stay are the first ones, in their order.
-fn are_first(keep: &[u8]) -> bool
-    ensures { IsTrue result → AreFirst keep.now }
-{
-    for (i, point) in keep.iter().enumerate() {
-        if *point as usize != i {
-            return false;
-        }
-    }
-    true
 }
 
 // Puts a row of which nothing is learnt behind others.
@@ -245,13 +233,15 @@ impl<'p> RowLedger<'p> {
             return Ok(RowNote::Plain);
         };
         let (row, outs, keep) = edge.into_parts();
+        let bare = row.texts().is_empty();
         let Some(to) = self.row_of(row)? else {
             return Ok(RowNote::Plain);
         };
-        if to as usize == number && outs.is_empty() && are_first(&keep) {
+        let known = KnownEdge::new(to, bare, outs, keep);
+        if to as usize == number && known.is_silent() {
             return Ok(RowNote::Stays);
         }
-        Ok(RowNote::Goes(KnownEdge::new(to, outs, keep)))
+        Ok(RowNote::Goes(known))
     }
 
     /// Learns what a row does at a class.

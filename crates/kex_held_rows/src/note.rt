@@ -1,6 +1,7 @@
 // What is known of a row.
 
-ghost use Rattle.std.specs.Prelude.{◌≡◌, ◌<◌, IfOk, length, replicate, slice_set};
+ghost use Rattle.std.specs.Prelude.{◌≡◌, ◌<◌, [], IfOk, IsTrue, length, replicate, slice_set};
+ghost use Rattle.kex_held_rows.specs.NumberedEdges.{HasFirsts};
 ghost use Rattle.kex_held_rows.specs.declared.note.RowNote.TheVariants.{Unknown};
 
 use kex_code::memory::Memory;
@@ -13,24 +14,49 @@ use std::marker::Model;
 #[derive(Drop)]
 pub struct KnownEdge {
     to: u32,
+    bare: bool,
     outs: Vec<HeldItem>,
     keep: Vec<u8>,
+    firsts: usize,
 }
 
 impl Model for KnownEdge {
-    ghost use Rattle.kex_held_rows.specs.NumberedEdges.{NumberedEdge};
+    ghost use Rattle.kex_held_rows.specs.NumberedEdges.{NumberedEdge, HasFirsts};
 
     ghost Value = { NumberedEdge };
 
-    ghost view = { λ e. record { to = e.to; outs = e.outs.items; keep = e.keep.items } };
+    ghost view = { λ e.
+        record { to = e.to; bare = e.bare; outs = e.outs.items; keep = e.keep.items } };
+
+    ghost invariant = { λ e. HasFirsts e.firsts e.keep.items };
+}
+
+// How many of the points that stay are the first ones, in their order.
+fn count_firsts(keep: &[u8]) -> usize
+    ensures { HasFirsts result keep.now }
+{
+    for (i, point) in keep.iter().enumerate() {
+        if *point as usize != i {
+            return i;
+        }
+    }
+    keep.len()
 }
 
 impl KnownEdge {
     /// The edge of these parts, which are moved.
-    pub fn new(to: u32, outs: Vec<HeldItem>, keep: Vec<u8>) -> KnownEdge
-        ensures { result ≡ record { to = to; outs = outs.items; keep = keep.items } }
+    pub fn new(to: u32, bare: bool, outs: Vec<HeldItem>, keep: Vec<u8>) -> KnownEdge
+        ensures { result
+            ≡ record { to = to; bare = bare; outs = outs.items; keep = keep.items } }
     {
-        KnownEdge { to, outs, keep }
+        let firsts = count_firsts(&keep);
+        KnownEdge {
+            to,
+            bare,
+            outs,
+            keep,
+            firsts,
+        }
     }
 
     /// The number of the row to which it leads.
@@ -38,6 +64,13 @@ impl KnownEdge {
         ensures { result ≡ self.now.to }
     {
         self.to
+    }
+
+    /// Whether that row holds nothing.
+    pub fn is_bare(&self) -> bool
+        ensures { result ≡ self.now.bare }
+    {
+        self.bare
     }
 
     /// What goes to the output.
@@ -52,6 +85,21 @@ impl KnownEdge {
         ensures { result.now ≡ self.now.keep }
     {
         &self.keep
+    }
+
+    /// How many of these are the first ones, in their order.
+    pub fn firsts(&self) -> usize
+        ensures { HasFirsts result self.now.keep }
+    {
+        self.firsts
+    }
+
+    /// Whether nothing goes to the output, and the points that stay are the first ones.
+    pub fn is_silent(&self) -> bool
+        ensures { IsTrue result → (self.now.outs ≡ []) × HasFirsts (length self.now.keep)
+            self.now.keep }
+    {
+        self.outs.is_empty() && self.firsts == self.keep.len()
     }
 }
 
