@@ -205,6 +205,12 @@ pub goes_at : (t : Transducer) (nodes : List MNode) (rows : List HeldRow) (q n :
 goes_at t nodes rows q n piece at row class marks marks' acts acts' e s lt is right em ea =
     subst (λ m. HasScanned t nodes rows q n piece (at + 1) e.to m acts') (sym em) (subst (λ l. HasScanned t nodes rows q n piece (at + 1) e.to (marks_by (points_at at marks) e.keep) l) (sym ea) (scan_goes t nodes rows q n piece at row class e.to marks acts (record { to = right.0; outs = e.outs; keep = e.keep }) s lt is right.2 right.1))
 
+pub bare_at : (rows : List HeldRow) (row : ℕ) (to r : HeldRow) → slice_get rows row ≡ Some to → slice_get rows row ≡ Some r → to.lists ≡ [] → r.lists ≡ []
+bare_at rows row to r is here bare = ap (λ (o : HeldRow). o.lists) (one_value (sym here ∙ is)) ∙ bare
+  where
+    one_value : {a b : HeldRow} → Some a ≡ Some b → a ≡ b
+    one_value f = cc
+
 -- at a row that holds nothing a scan has gone along a leap
 pub scan_leads : (t : Transducer) (nodes : List MNode) (rows : List HeldRow) (q n : ℕ) (piece : List ℕ) (at row : ℕ) (marks : List ℕ) (acts : List LeapAct) (to : HeldRow) (state node : ℕ) → HasScanned t nodes rows q n piece at row marks acts → ((r : HeldRow) → slice_get rows row ≡ Some r → r.lists ≡ []) → slice_get rows row ≡ Some to → state ≡ to.state → node ≡ to.node → IsLeap t nodes q n (take at piece) (acts_in piece acts) state node
 scan_leads t nodes rows q n piece at row marks acts to state node s bare here es en =

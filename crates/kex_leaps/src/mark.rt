@@ -85,40 +85,25 @@ fn put_points(marks: &[usize], at: usize, keep: &[u8], out: &mut Vec<usize>) -> 
     Ok(())
 }
 
-// How many of the points that stay are the first ones, in their order.
-#[inline(always)]
-fn count_firsts(keep: &[u8]) -> usize
-    ensures within { result ≤ length keep.now }
-    ensures first { (i : ℕ) → i < result → get_or keep.now i 0 ≡ i }
-{
-    for (i, point) in keep.iter().enumerate() {
-        if *point as usize != i {
-            return i;
-        }
-    }
-    keep.len()
-}
-
 // Whether one point alone stays behind so many, and is the place of the byte behind so many marks.
 #[inline(always)]
 fn ends_at_byte(keep: &[u8], front: usize, marks: usize) -> bool
+    requires { front ≤ length keep.now }
     ensures { IsTrue result → (length keep.now ≡ front + 1) × (get_or keep.now front 0 ≡ marks) }
 {
-    if keep.len() == 0 || keep.len() - 1 != front {
-        return false;
-    }
-    keep[front] as usize == marks
+    keep.len() == front + 1 && keep[front] as usize == marks
 }
 
 // Keeps points as marks where those are the first marks alone, or these and then the place of the
 // byte. Tells whether it is so.
 #[inline(always)]
-fn keep_front(marks: &mut Vec<usize>, at: usize, keep: &[u8]) -> Result<bool, Memory>
+fn keep_front(marks: &mut Vec<usize>, at: usize, edge: &KnownEdge) -> Result<bool, Memory>
     ensures kept { IfOk result (λ b. IsTrue b
-        → marks.new.items ≡ marks_by (points_at at marks.old.items) keep.now) }
+        → marks.new.items ≡ marks_by (points_at at marks.old.items) edge.now.keep) }
     ensures same { IfOk result (λ b. b ≡ false → marks.new.items ≡ marks.old.items) }
 {
-    let front = count_firsts(keep).min(marks.len());
+    let keep = edge.keep();
+    let front = edge.firsts().min(marks.len());
     if front == keep.len() {
         marks.truncate(front);
         return Ok(true);
@@ -137,17 +122,18 @@ fn keep_points(
     marks: &mut Vec<usize>,
     spare: &mut Vec<usize>,
     at: usize,
-    keep: &[u8],
+    edge: &KnownEdge,
 ) -> Result<(), Memory>
     requires fits { at + 1 < 2 ^ 64 }
-    requires kept { AreKept (length marks.old.items + 2) keep.now }
-    ensures { OnOk result (marks.new.items ≡ marks_by (points_at at marks.old.items) keep.now) }
+    requires kept { AreKept (length marks.old.items + 2) edge.now.keep }
+    ensures { OnOk result (marks.new.items
+        ≡ marks_by (points_at at marks.old.items) edge.now.keep) }
 {
-    if keep_front(marks, at, keep)? {
+    if keep_front(marks, at, edge)? {
         return Ok(());
     }
     spare.clear();
-    put_points(marks, at, keep, spare)?;
+    put_points(marks, at, edge.keep(), spare)?;
     mem::swap(marks, spare);
     Ok(())
 }
@@ -183,6 +169,6 @@ impl Trace {
             ≡ marks_by (points_at at self.old.marks.items) edge.now.keep) }
     {
         put_acts(&self.marks, at, edge.outs(), &mut self.acts)?;
-        keep_points(&mut self.marks, &mut self.spare, at, edge.keep())
+        keep_points(&mut self.marks, &mut self.spare, at, edge)
     }
 }

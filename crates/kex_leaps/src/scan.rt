@@ -49,16 +49,6 @@ pub struct ScanStop {
     pub end: ScanEnd,
 }
 
-// Whether a row holds nothing.
-#[inline(always)]
-fn is_bare(ledger: &RowLedger, row: u32) -> bool
-    requires { row < length ledger.now.rows }
-    ensures { IsTrue result → (r : HeldRow) → slice_get (rows_in ledger.now.rows) row ≡ Some r
-        → r.lists ≡ [] }
-{
-    ledger.row_at(row as usize).texts().is_empty()
-}
-
 // How far a row stays along a piece.
 #[inline(always)]
 fn stay(ledger: &RowLedger, table: &Table, row: u32, piece: &[u8], from: usize) -> usize
@@ -120,7 +110,7 @@ pub fn scan_on(
                 trace.take(edge, at)?;
                 row = edge.to();
                 at += 1;
-                if is_bare(ledger, row) {
+                if edge.is_bare() {
                     let end = ScanEnd::Bare;
                     return Ok(ScanStop { at, row, end });
                 }

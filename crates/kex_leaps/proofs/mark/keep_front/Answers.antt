@@ -1,15 +1,20 @@
-use Rattle.std.proofs.Common.{◌∙◌, ◌≤◌, ◌<◌, ◌++◌, ◌∷◌, [], ℕ, length, take, get_or, sym, ap, arith}
+use Rattle.std.proofs.Common.{◌≡◌, ◌∙◌, ◌≤◌, ◌<◌, ◌++◌, ◌∷◌, [], ℕ, List, length, take, get_or, sym, ap, arith}
 use Rattle.kex_leaps.proofs.KeptMarks.{firsts_kept, firsts_marked}
 use Rattle.kex_leaps.proofs.mark.keep_front.Goals as goal
 
 pub returns-then-front-keep-clause-kept : goal.returns-then-front-keep-clause-kept
 returns-then-front-keep-clause-kept c = λ yes.
     let n = c.min-front.result in
-    c.truncate.ensures.items ∙ firsts_kept c.args.at c.args.marks.now.items c.args.keep.now n (omega (arith, c.min-front.ensures)) (omega (arith, c.if-front-keep.true)) (λ i lt. c.count_firsts.ensures.first i (omega (arith, lt, c.min-front.ensures)))
+    let keep = c.args.edge.now.keep in
+    let long : length c.keep-keep.result.now ≡ length keep = ap (λ (l : List ℕ). length l) c.keep-keep.ensures in
+    c.truncate.ensures.items ∙ firsts_kept c.args.at c.args.marks.now.items keep n (omega (arith, c.min-front.ensures)) (omega (arith, c.if-front-keep.true, long)) (λ i lt. c.firsts.ensures.1 i (omega (arith, lt, c.min-front.ensures)))
 
 pub returns-then-ends_at_byte-clause-kept : goal.returns-then-ends_at_byte-clause-kept
 returns-then-ends_at_byte-clause-kept c = λ yes.
     let n = c.min-front.result in
     let marks = c.args.marks.now.items in
+    let keep = c.args.edge.now.keep in
+    let long : length c.keep-keep.result.now ≡ length keep = ap (λ (l : List ℕ). length l) c.keep-keep.ensures in
     let ends = c.ends_at_byte.ensures c.if-ends_at_byte.true in
-    (c.in_ok-push.ensures {u = tt}).items ∙ ap (λ l. l ++ c.args.at ∷ []) c.truncate-then-ends_at_byte.ensures.items ∙ firsts_marked c.args.at marks c.args.keep.now n (omega (arith, c.min-front.ensures)) ends.0 (λ i lt. c.count_firsts.ensures.first i (omega (arith, lt, c.min-front.ensures))) (omega (arith, ends.1, c.len-2.ensures, c.args.marks.now.ok.0))
+    let last : get_or keep n 0 ≡ get_or c.keep-keep.result.now n 0 = sym (ap (λ (l : List ℕ). get_or l n 0) c.keep-keep.ensures) in
+    (c.in_ok-push.ensures {u = tt}).items ∙ ap (λ l. l ++ c.args.at ∷ []) c.truncate-then-ends_at_byte.ensures.items ∙ firsts_marked c.args.at marks keep n (omega (arith, c.min-front.ensures)) (omega (arith, ends.0, long)) (λ i lt. c.firsts.ensures.1 i (omega (arith, lt, c.min-front.ensures))) (omega (arith, last, ends.1, c.len-2.ensures, c.args.marks.now.ok.0))

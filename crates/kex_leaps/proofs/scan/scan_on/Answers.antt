@@ -1,11 +1,11 @@
 use Rattle.std.proofs.Common.{◌≡◌, ◌∙◌, ◌<◌, ◌+◌, ℕ, Some, get_or, length, ap, sym, subst, arith, refl}
-use Rattle.std.specs.Prelude.{slice_get}
+use Rattle.std.specs.Prelude.{IsTrue, slice_get}
 use Rattle.kex_byteset.specs.Classes.{class_at, class_count}
 use Rattle.kex_sst.specs.Tables.{Transducer}
 use Rattle.kex_held_rows.specs.declared.note.RowNote.TheVariants.{Stays, Goes}
 use Rattle.kex_held_rows.specs.Books.{rows_in, IsNoteRight}
 use Rattle.kex_leaps.specs.Leaps.{HasScanned}
-use Rattle.kex_leaps.proofs.RowScans.{class_is, row_in, outs_in, keep_in, goes_at, scan_stays}
+use Rattle.kex_leaps.proofs.RowScans.{class_is, row_in, outs_in, keep_in, goes_at, bare_at, scan_stays}
 use Rattle.kex_leaps.proofs.scan.scan_on.Goals as goal
 
 pub note_at-requires-clause-number : goal.note_at-requires-clause-number
@@ -59,30 +59,6 @@ stay-at-requires-clause-row c =
     let s = c.bytes.invariant.scanned r.0 r.1 r.2 in
     row_in c.args.ledger.now.rows c.bytes.row s.to s.is
 
-pub is_bare-requires : goal.is_bare-requires
-is_bare-requires c =
-    let b = c.args.ledger.now in
-    let piece = c.args.piece.now in
-    let rows = rows_in b.rows in
-    let e = c.in-Goes.edge in
-    let i = c.bytes.at in
-    let byte = get_or piece i 0 in
-    let class = c.class_of-class.result in
-    let long = subst (λ (t : Transducer). length t.classes ≡ 256) c.requires.table c.partition-partition.ensures.table.numbered.long in
-    let is = class_is b.table.classes byte class long ((c.type_inv.piece i).fits) (c.class_of-class.ensures.class ∙ ap (λ z. class_at z byte) (c.partition-partition.ensures.same ∙ ap (λ (t : Transducer). t.classes) c.requires.table)) in
-    let took = c.in_ok-take-in-Goes.ensures {u = tt} in
-    let marks = c.bytes.trace.marks.items in
-    let acts = c.bytes.trace.acts.items in
-    let marks' = c.take.new.self.marks.items in
-    let acts' = c.take.new.self.acts.items in
-    let gone : (q n : ℕ) → HasScanned b.table b.machine.nodes rows q n piece c.args.from.at c.args.from.row c.args.trace.now.marks.items c.args.trace.now.acts.items → HasScanned b.table b.machine.nodes rows q n piece (i + 1) e.to marks' acts' = λ q n s0.
-    let s = c.bytes.invariant.scanned q n s0 in
-    let right = subst (IsNoteRight b.table b.machine.nodes rows s.to class) c.in-Goes.is (c.note_at.ensures s.to s.is) in
-    goes_at b.table b.machine.nodes rows q n piece i c.bytes.row class marks marks' acts acts' e s c.bytes-test.true is right took.marks took.acts in
-    let r = c.requires.scanned in
-    let s = gone r.0 r.1 r.2 in
-    subst (λ n. n < length b.rows) (sym c.to-row.ensures) (row_in b.rows e.to s.to s.is)
-
 pub returns-then-is_bare-clause-scanned : goal.returns-then-is_bare-clause-scanned
 returns-then-is_bare-clause-scanned c =
     let b = c.args.ledger.now in
@@ -104,6 +80,17 @@ returns-then-is_bare-clause-scanned c =
     let right = subst (IsNoteRight b.table b.machine.nodes rows s.to class) c.in-Goes.is (c.note_at.ensures s.to s.is) in
     goes_at b.table b.machine.nodes rows q n piece i c.bytes.row class marks marks' acts acts' e s c.bytes-test.true is right took.marks took.acts in
     λ q n s0. subst (λ row. HasScanned b.table b.machine.nodes rows q n piece (i + 1) row marks' acts') (sym c.to-row.ensures) (gone q n s0)
+
+pub returns-then-is_bare-clause-bare : goal.returns-then-is_bare-clause-bare
+returns-then-is_bare-clause-bare c = λ yes r here.
+    let b = c.args.ledger.now in
+    let rows = rows_in b.rows in
+    let class = c.class_of-class.result in
+    let q = c.requires.scanned in
+    let s = c.bytes.invariant.scanned q.0 q.1 q.2 in
+    let right = subst (IsNoteRight b.table b.machine.nodes rows s.to class) c.in-Goes.is (c.note_at.ensures s.to s.is) in
+    let bare = right.3 (subst IsTrue c.is_bare.ensures c.if-is_bare.true) in
+    bare_at rows c.in-Goes.edge.to right.0 r right.1 (subst (λ n. slice_get rows n ≡ Some r) c.to-row.ensures here) bare
 
 pub bytes-preserved : goal.bytes-preserved
 bytes-preserved c =
