@@ -24,6 +24,10 @@ pub record RowBook : Type 0 where
 abbrev pub rows_in : List RowNotes → List HeldRow
 rows_in xs = map (λ x. x.row) xs
 
+-- the row of a state and a node where nothing is held
+abbrev pub bare_row : ℕ → ℕ → HeldRow
+bare_row q n = record { state = q; node = n; marks = 0; lists = [] }
+
 -- these are the first points, in their order
 abbrev pub AreFirst : List ℕ → Type 0
 AreFirst keep = (i : ℕ) → i < length keep → get_or keep i 0 ≡ i

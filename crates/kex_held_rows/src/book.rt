@@ -6,7 +6,7 @@ ghost use Rattle.kex_byteset.specs.Classes.{class_count};
 ghost use Rattle.kex_held.specs.HeldRows.{HeldRow};
 ghost use Rattle.kex_held.specs.LearntEdges.{IsRowWithin};
 ghost use Rattle.kex_held_rows.specs.declared.note.RowNote.TheVariants.{Unknown};
-ghost use Rattle.kex_held_rows.specs.Books.{RowNotes, rows_in, IsNoteRight, KeepsRows};
+ghost use Rattle.kex_held_rows.specs.Books.{RowNotes, rows_in, bare_row, IsNoteRight, KeepsRows};
 
 use crate::note::{KnownEdge, KnownRow, RowNote};
 use crate::same::is_same_row;
@@ -73,6 +73,28 @@ fn find(rows: &[KnownRow], heads: &[u32], row: &TextRow) -> Option<u32>
         number = known.earlier();
     }
     None
+}
+
+// Whether a row is that of a state and a node where nothing is held.
+fn is_bare_row(row: &TextRow, state: u32, node: u32) -> bool
+    ensures { IsTrue result → row.now ≡ bare_row state node }
+{
+    row.state() == state && row.node() == node && row.marks() == 0 && row.texts().is_empty()
+}
+
+// The number of the row of a state and a node where nothing is held, if it is the latest of its
+// state.
+fn find_bare(rows: &[KnownRow], heads: &[u32], state: u32, node: u32) -> Option<u32>
+    ensures { IfSome result (λ i. slice_get (rows_in rows.now) i ≡ Some (bare_row state node)) }
+{
+    let number = *heads.get(state as usize)?;
+    if number as usize >= rows.len() {
+        return None;
+    }
+    if !is_bare_row(rows[number as usize].row(), state, node) {
+        return None;
+    }
+    Some(number)
 }
 
 // Whether as many rows of a state are there as are looked at.
@@ -162,8 +184,6 @@ impl<'p> RowLedger<'p> {
     }
 
     /// The number of a row: its own, or the next. `None` where there are too many rows.
-    ///
-    /// A row without lists is that of a state and a node alone.
     pub fn row_of(&mut self, row: TextRow) -> Result<Option<u32>, Memory>
         requires { IsRowWithin self.old.table self.old.machine row }
         ensures at { IfOk result (λ o.
@@ -183,6 +203,22 @@ impl<'p> RowLedger<'p> {
         let classes = self.table.partition().classes() as usize;
         push_row(self.alloc, &mut self.rows, row, earlier, classes)?;
         Ok(Some(number))
+    }
+
+    /// The number of the row of a state and a node where nothing is held: its own, or the next.
+    /// `None` where there are too many rows.
+    pub fn bare_row_of(&mut self, state: u32, node: u32) -> Result<Option<u32>, Memory>
+        requires state { state < length self.old.table.states }
+        requires node { node < length self.old.machine.nodes }
+        ensures at { IfOk result (λ o.
+            IfSome o (λ i. slice_get (rows_in self.new.rows) i ≡ Some (bare_row state node))) }
+        ensures keeps { KeepsRows self.old self.new }
+    {
+        if let Some(number) = find_bare(&self.rows, &self.heads, state, node) {
+            return Ok(Some(number));
+        }
+        let row = TextRow::new(state, node, 0, Vec::new(self.alloc));
+        self.row_of(row)
     }
 
     /// How many rows there are.

@@ -26,11 +26,11 @@ use Rattle.kex_held.proofs.LearntEdges.{right_learnt}
 use Rattle.kex_held.proofs.MarkedTexts.{count_at, at_mark, points_same, points_rise_at, slice_read}
 use Rattle.kex_held_rows.specs.NumberedEdges.{NumberedEdge}
 use Rattle.kex_held_rows.specs.declared.note.RowNote.TheVariants.{Goes}
-use Rattle.kex_held_rows.specs.Books.{RowNotes, RowBook, rows_in, StaysAtRow, IsNoteRight, KeepsRows}
+use Rattle.kex_held_rows.specs.Books.{RowNotes, RowBook, rows_in, bare_row, StaysAtRow, IsNoteRight, KeepsRows}
 use Rattle.kex_held_rows.proofs.RowBooks.{kept_at}
 use Rattle.kex_leaps.specs.declared.act.LeapAct.{LeapAct}
 use Rattle.kex_leaps.specs.declared.act.LeapAct.TheVariants.{Text, Effect}
-use Rattle.kex_leaps.specs.Leaps.{act_in, acts_in, IsActWithin, AreActsWithin, leap_act, leap_acts, without_registers, bare_row, IsLeap, HasScanned}
+use Rattle.kex_leaps.specs.Leaps.{act_in, acts_in, IsActWithin, AreActsWithin, leap_act, leap_acts, without_registers, IsLeap, HasScanned}
 
 -- what an edge's items come to over what was read is what their acts come to in the piece
 acts_read : (piece : List ℕ) (at : ℕ) (marks : List ℕ) (xs : List HeldItem) → at < length piece → AreRising at marks → AreItemsWithin (length marks + 2) xs → acts_over (take (at + 1) piece) (points_at at marks) xs ≡ acts_in piece (leap_acts at marks xs)

@@ -55,10 +55,6 @@ pub record IsLeap (t : Transducer) (nodes : List MNode) (q n : ℕ) (bs : List �
       ≡ Some (pass_with (without_registers r m) (c ++ said) [])
   pub does : DoesActs nodes n said m acts
 
--- the row of a state and a node where nothing is held
-abbrev pub bare_row : ℕ → ℕ → HeldRow
-bare_row q n = record { state = q; node = n; marks = 0; lists = [] }
-
 -- along the first bytes of a piece the table has gone from q, without registers, to a row; what is
 -- passed on does the acts from n to the row's node
 pub record HasScanned (t : Transducer) (nodes : List MNode) (rows : List HeldRow) (q n : ℕ)

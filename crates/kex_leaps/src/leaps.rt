@@ -26,7 +26,6 @@ use std::marker::Model;
 /// kept, and done then at once.
 #[derive(Drop)]
 pub struct Leaps<'p> {
-    alloc: Global,
     table: &'p Table,
     ledger: RowLedger<'p>,
     trace: Trace,
@@ -56,7 +55,6 @@ impl<'p> Leaps<'p> {
     {
         let ledger = RowLedger::new(alloc, table, machine)?;
         Ok(Leaps {
-            alloc,
             table,
             ledger,
             trace: Trace::new(alloc),
@@ -84,7 +82,6 @@ impl<'p> Leaps<'p> {
             return Ok(None);
         }
         let found = scan(
-            self.alloc,
             self.table,
             &mut self.ledger,
             &mut self.trace,

@@ -3,20 +3,18 @@
 ghost use Rattle.std.specs.Prelude.{◌≡◌, ◌<◌, ◌≤◌, ℕ, List, [], Some, IfOk, IfSome, IsTrue, length};
 ghost use Rattle.std.specs.Prelude.{slice_get, take};
 ghost use Rattle.kex_held.specs.HeldRows.{HeldRow};
-ghost use Rattle.kex_held_rows.specs.Books.{rows_in, KeepsRows};
+ghost use Rattle.kex_held_rows.specs.Books.{rows_in, bare_row, KeepsRows};
 ghost use Rattle.kex_leaps.specs.declared.act.LeapAct.{LeapAct};
 ghost use Rattle.kex_leaps.specs.declared.scan.ScanEnd.{ScanEnd};
-ghost use Rattle.kex_leaps.specs.Leaps.{acts_in, AreActsWithin, bare_row, IsLeap};
+ghost use Rattle.kex_leaps.specs.Leaps.{acts_in, AreActsWithin, IsLeap};
 ghost use Rattle.kex_leaps.specs.Leaps.{HasScanned};
 
 use crate::credit::Credit;
 use crate::mark::Trace;
 use kex_code::memory::Memory;
-use kex_held::row::TextRow;
 use kex_held_rows::book::RowLedger;
 use kex_held_rows::note::RowNote;
 use kex_sst::table::Table;
-use std::alloc::Global;
 
 /// So many bytes, and the state and the node to which they lead.
 #[derive(Clone, Copy, Debug, PartialEq, Eq)]
@@ -189,7 +187,6 @@ pub fn scan_from(
 /// Goes along a piece from a state without registers, where the actor is at a node, up to the next
 /// such state. `None` where the piece ends before that, and where it can't be learnt.
 pub fn scan(
-    alloc: Global,
     table: &Table,
     ledger: &mut RowLedger,
     trace: &mut Trace,
@@ -213,8 +210,7 @@ pub fn scan(
         × (s.node < length ledger.old.machine.nodes))) }
 {
     trace.clear();
-    let first = TextRow::new(state, node, 0, Vec::new(alloc));
-    let Some(row) = ledger.row_of(first)? else {
+    let Some(row) = ledger.bare_row_of(state, node)? else {
         return Ok(None);
     };
     let Some(point) = scan_from(ledger, table, row, piece, trace, credit)? else {

@@ -1,58 +1,43 @@
 use Rattle.std.proofs.Common.{◌≡◌, ◌∙◌, ◌<◌, ◌≤◌, ℕ, List, [], Some, IfSome, length, take, sym, ap, subst, arith}
 use Rattle.std.specs.Prelude.{slice_get}
-use Rattle.kex_held.specs.Tracks.{HeldList}
 use Rattle.kex_held.specs.HeldRows.{HeldRow}
-use Rattle.kex_held.specs.LearntEdges.{IsRowWithin}
-use Rattle.kex_held_rows.specs.Books.{rows_in}
+use Rattle.kex_held_rows.specs.Books.{rows_in, bare_row}
 use Rattle.kex_machine.specs.Nodes.{Graph}
 use Rattle.kex_sst.specs.Tables.{Transducer}
-use Rattle.kex_leaps.specs.Leaps.{acts_in, bare_row, IsLeap, HasScanned}
+use Rattle.kex_leaps.specs.Leaps.{acts_in, IsLeap, HasScanned}
 use Rattle.kex_leaps.proofs.RowScans.{row_in, scan_leads, acts_rest}
 use Rattle.kex_leaps.proofs.scan.scan.Goals as goal
-
-pub row_of-requires : goal.row_of-requires
-row_of-requires c =
-    let row : List HeldList → HeldRow = λ l. record { state = c.args.state; node = c.args.node; marks = 0; lists = l } in
-    let first : c.new-first.result ≡ bare_row c.args.state c.args.node = c.new-first.ensures ∙ ap row c.new.ensures.items in
-    let b = c.args.ledger.now in
-    subst (λ r. IsRowWithin b.table b.machine r) (sym first) (record { state = c.requires.state; node = c.requires.node; marks = omega arith; within = tt })
 
 pub scan_from-requires-clause-table : goal.scan_from-requires-clause-table
 scan_from-requires-clause-table c = c.requires.table ∙ sym (c.in_ok-row.ensures {u = tt}).keeps.table
 
 pub scan_from-requires-clause-first : goal.scan_from-requires-clause-first
 scan_from-requires-clause-first c =
-    let row : List HeldList → HeldRow = λ l. record { state = c.args.state; node = c.args.node; marks = 0; lists = l } in
-    let first : c.new-first.result ≡ bare_row c.args.state c.args.node = c.new-first.ensures ∙ ap row c.new.ensures.items in
-    let rows = rows_in c.row_of.new.self.rows in
-    let at = subst (λ o. IfSome o (λ i. slice_get rows i ≡ Some c.new-first.result)) c.in-Some.is (c.in_ok-row.ensures {u = tt}).at in
-    (c.args.state, c.args.node, at ∙ ap Some first)
+    let rows = rows_in c.bare_row_of.new.self.rows in
+    let at = subst (λ o. IfSome o (λ i. slice_get rows i ≡ Some (bare_row c.args.state c.args.node))) c.in-Some.is (c.in_ok-row.ensures {u = tt}).at in
+    (c.args.state, c.args.node, at)
 
 pub row_at-to-requires : goal.row_at-to-requires
 row_at-to-requires c =
-    let row : List HeldList → HeldRow = λ l. record { state = c.args.state; node = c.args.node; marks = 0; lists = l } in
-    let first : c.new-first.result ≡ bare_row c.args.state c.args.node = c.new-first.ensures ∙ ap row c.new.ensures.items in
-    let old = c.row_of.new.self in
+    let old = c.bare_row_of.new.self in
     let new = c.scan_from.new.ledger in
     let piece = c.args.piece.now in
     let trace = c.scan_from.new.trace in
-    let at = subst (λ o. IfSome o (λ i. slice_get (rows_in old.rows) i ≡ Some c.new-first.result)) c.in-Some.is (c.in_ok-row.ensures {u = tt}).at ∙ ap Some first in
+    let at = subst (λ o. IfSome o (λ i. slice_get (rows_in old.rows) i ≡ Some (bare_row c.args.state c.args.node))) c.in-Some.is (c.in_ok-row.ensures {u = tt}).at in
     let all = subst (λ o. IfSome o (λ p. (q n : ℕ) → slice_get (rows_in old.rows) c.in-Some.row ≡ Some (bare_row q n) → HasScanned old.table old.machine.nodes (rows_in new.rows) q n piece p.at p.row trace.marks.items trace.acts.items)) c.in-Some-2.is (c.in_ok-point.ensures {u = tt}).scanned in
     let s = all c.args.state c.args.node at in
     row_in new.rows c.in-Some-2.point.row s.to s.is
 
 pub returns-clause-leap : goal.returns-clause-leap
 returns-clause-leap c =
-    let row : List HeldList → HeldRow = λ l. record { state = c.args.state; node = c.args.node; marks = 0; lists = l } in
-    let first : c.new-first.result ≡ bare_row c.args.state c.args.node = c.new-first.ensures ∙ ap row c.new.ensures.items in
     let b = c.args.ledger.now in
-    let old = c.row_of.new.self in
+    let old = c.bare_row_of.new.self in
     let new = c.scan_from.new.ledger in
     let piece = c.args.piece.now in
     let trace = c.scan_from.new.trace in
     let point = c.in-Some-2.point in
     let keeps = (c.in_ok-row.ensures {u = tt}).keeps in
-    let at = subst (λ o. IfSome o (λ i. slice_get (rows_in old.rows) i ≡ Some c.new-first.result)) c.in-Some.is (c.in_ok-row.ensures {u = tt}).at ∙ ap Some first in
+    let at = subst (λ o. IfSome o (λ i. slice_get (rows_in old.rows) i ≡ Some (bare_row c.args.state c.args.node))) c.in-Some.is (c.in_ok-row.ensures {u = tt}).at in
     let found = c.in_ok-point.ensures {u = tt} in
     let all = subst (λ o. IfSome o (λ p. (q n : ℕ) → slice_get (rows_in old.rows) c.in-Some.row ≡ Some (bare_row q n) → HasScanned old.table old.machine.nodes (rows_in new.rows) q n piece p.at p.row trace.marks.items trace.acts.items)) c.in-Some-2.is found.scanned in
     let s = all c.args.state c.args.node at in
@@ -62,14 +47,12 @@ returns-clause-leap c =
 
 pub returns-clause-acts : goal.returns-clause-acts
 returns-clause-acts c =
-    let row : List HeldList → HeldRow = λ l. record { state = c.args.state; node = c.args.node; marks = 0; lists = l } in
-    let first : c.new-first.result ≡ bare_row c.args.state c.args.node = c.new-first.ensures ∙ ap row c.new.ensures.items in
-    let old = c.row_of.new.self in
+    let old = c.bare_row_of.new.self in
     let new = c.scan_from.new.ledger in
     let piece = c.args.piece.now in
     let trace = c.scan_from.new.trace in
     let point = c.in-Some-2.point in
-    let at = subst (λ o. IfSome o (λ i. slice_get (rows_in old.rows) i ≡ Some c.new-first.result)) c.in-Some.is (c.in_ok-row.ensures {u = tt}).at ∙ ap Some first in
+    let at = subst (λ o. IfSome o (λ i. slice_get (rows_in old.rows) i ≡ Some (bare_row c.args.state c.args.node))) c.in-Some.is (c.in_ok-row.ensures {u = tt}).at in
     let found = c.in_ok-point.ensures {u = tt} in
     let all = subst (λ o. IfSome o (λ p. (q n : ℕ) → slice_get (rows_in old.rows) c.in-Some.row ≡ Some (bare_row q n) → HasScanned old.table old.machine.nodes (rows_in new.rows) q n piece p.at p.row trace.marks.items trace.acts.items)) c.in-Some-2.is found.scanned in
     let within = subst (λ o. IfSome o (λ p. p.at ≤ length piece)) c.in-Some-2.is found.at in

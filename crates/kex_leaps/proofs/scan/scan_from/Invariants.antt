@@ -1,7 +1,7 @@
 use Rattle.std.proofs.Common.{◌≡◌, ◌≤◌, ℕ, Some, length}
 use Rattle.std.specs.Prelude.{slice_get}
-use Rattle.kex_held_rows.specs.Books.{rows_in, KeepsRows}
-use Rattle.kex_leaps.specs.Leaps.{bare_row, HasScanned}
+use Rattle.kex_held_rows.specs.Books.{rows_in, bare_row, KeepsRows}
+use Rattle.kex_leaps.specs.Leaps.{HasScanned}
 use Rattle.kex_leaps.proofs.scan.scan_from.Given as goal
 
 abbrev pub invariant-rounds : goal.invariant-rounds
