@@ -44,9 +44,10 @@ fn place(marks: &[usize], at: usize, item: HeldItem) -> LeapAct
     ensures { result ≡ leap_act at marks.now item }
 {
     match item {
-        HeldItem::Slice(from, to) => {
-            LeapAct::Text(point_of(marks, at, from), point_of(marks, at, to))
-        }
+        HeldItem::Slice(from, to) => LeapAct::Text {
+            from: point_of(marks, at, from),
+            to: point_of(marks, at, to),
+        },
         HeldItem::Effect(node) => LeapAct::Effect(node),
     }
 }

@@ -134,7 +134,7 @@ fn perform_one(
     ensures usable { OnOk result (IsTrue actor.new.usable) }
 {
     match one {
-        LeapAct::Text(from, to) => write(node, &piece[from..to], actor, sheet, out),
+        LeapAct::Text { from, to } => write(node, &piece[from..to], actor, sheet, out),
         LeapAct::Effect(by) => act(node, by, actor, sheet, out),
     }
 }
