@@ -1,5 +1,5 @@
 -- A scan goes on along what is noted of rows.
-use Rattle.std.proofs.Common.{◌≡◌, ℕ, zero, suc, ◌≤◌, ◌<◌, ◌+◌, List, [], ◌∷◌, ◌++◌, Some, All, map, length, take, get_or, refl, sym, ap, ap₂, subst, ◌∙◌, arith, append-nil, append_assoc}
+use Rattle.std.proofs.Common.{◌≡◌, ℕ, zero, suc, ◌≤◌, ◌<◌, ◌+◌, List, [], ◌∷◌, ◌++◌, Some, All, length, take, get_or, refl, sym, ap, ap₂, subst, ◌∙◌, arith, append-nil, append_assoc}
 use Rattle.std.specs.Prelude.{slice_get}
 use Rattle.std.proofs.lemmas.List.{take_more, map-append, length-map, length-take-le, get_or-map, ext_get_or}
 use Rattle.std.proofs.lemmas.List.Elements.{All-append}
@@ -16,7 +16,7 @@ use Rattle.kex_held.specs.declared.item.HeldItem.TheVariants as items
 use Rattle.kex_held.specs.Acts.{bytes, effect}
 use Rattle.kex_held.specs.TreeEdges.{DoesActs, AreHeld}
 use Rattle.kex_held.specs.HeldRuns.{pass_with}
-use Rattle.kex_held.specs.Slices.{slice_between, acts_over, AreRising, points_of, edge_points, IsItemWithin, AreItemsWithin, AreKept, marks_by}
+use Rattle.kex_held.specs.Slices.{acts_over, AreRising, points_of, edge_points, IsItemWithin, AreItemsWithin, AreKept, marks_by}
 use Rattle.kex_held.specs.Windows.{points_at}
 use Rattle.kex_held.specs.HeldRows.{HeldRow, RowEdge, state_over, FitsWindow, tree_edges_of}
 use Rattle.kex_held.specs.LearntEdges.{IsLearnt}

@@ -1,4 +1,4 @@
-use Rattle.std.proofs.Common.{◌≡◌, ◌∙◌, ◌≤◌, ◌<◌, ◌++◌, ◌∷◌, [], ℕ, List, length, take, get_or, sym, ap, arith}
+use Rattle.std.proofs.Common.{◌≡◌, ◌∙◌, ◌++◌, ◌∷◌, [], ℕ, List, length, get_or, sym, ap, arith}
 use Rattle.kex_leaps.proofs.KeptMarks.{firsts_kept, firsts_marked}
 use Rattle.kex_leaps.proofs.mark.keep_front.Goals as goal
 

@@ -1,6 +1,5 @@
-use Rattle.std.proofs.Common.{◌≡◌, ◌∙◌, ◌++◌, ◌∷◌, [], ap, ap₂}
+use Rattle.std.proofs.Common.{◌∙◌}
 use Rattle.kex_held.specs.declared.item.HeldItem.TheVariants.{Slice}
-use Rattle.kex_leaps.specs.Leaps.{leap_acts}
 use Rattle.kex_leaps.proofs.RowScans.{item_in, acts_more}
 use Rattle.kex_leaps.proofs.mark.put_acts.Goals as goal
 

@@ -1,4 +1,4 @@
-use Rattle.std.proofs.Common.{◌∙◌, arith}
+use Rattle.std.proofs.Common.{◌∙◌}
 use Rattle.kex_action.proofs.Sheets.{blank_state}
 use Rattle.kex_leaps.proofs.LeapEffects.{blank_sheet}
 use Rattle.kex_leaps.proofs.perform.make_place.Goals as goal

@@ -1,4 +1,4 @@
-use Rattle.std.proofs.Common.{◌≡◌, ◌∙◌, ◌<◌, ◌≤◌, ℕ, List, [], Some, IfSome, length, take, sym, ap, subst, arith}
+use Rattle.std.proofs.Common.{◌≡◌, ◌∙◌, ◌<◌, ◌≤◌, ℕ, [], Some, IfSome, length, take, sym, subst}
 use Rattle.std.specs.Prelude.{slice_get}
 use Rattle.kex_held.specs.HeldRows.{HeldRow}
 use Rattle.kex_held_rows.specs.Books.{rows_in, bare_row}

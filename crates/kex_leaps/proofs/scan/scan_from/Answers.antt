@@ -1,6 +1,4 @@
-use Rattle.std.proofs.Common.{◌≡◌, ◌∙◌, ◌<◌, ℕ, Some, length, sym, ap, subst, arith}
-use Rattle.std.specs.Prelude.{slice_get}
-use Rattle.kex_held.specs.HeldRows.{HeldRow}
+use Rattle.std.proofs.Common.{◌∙◌, sym, arith}
 use Rattle.kex_held_rows.specs.Books.{rows_in}
 use Rattle.kex_held_rows.proofs.RowBooks.{keeps_same}
 use Rattle.kex_leaps.proofs.RowScans.{row_in, scan_begins, scan_kept, scan_over, keeps_more}

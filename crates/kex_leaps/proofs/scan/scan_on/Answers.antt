@@ -1,8 +1,7 @@
-use Rattle.std.proofs.Common.{◌≡◌, ◌∙◌, ◌<◌, ◌+◌, ℕ, Some, get_or, length, ap, sym, subst, arith, refl}
+use Rattle.std.proofs.Common.{◌≡◌, ◌∙◌, ◌<◌, ◌+◌, ℕ, Some, get_or, length, ap, sym, subst, arith}
 use Rattle.std.specs.Prelude.{IsTrue, slice_get}
 use Rattle.kex_byteset.specs.Classes.{class_at, class_count}
 use Rattle.kex_sst.specs.Tables.{Transducer}
-use Rattle.kex_held_rows.specs.declared.note.RowNote.TheVariants.{Stays, Goes}
 use Rattle.kex_held_rows.specs.Books.{rows_in, IsNoteRight}
 use Rattle.kex_leaps.specs.Leaps.{HasScanned}
 use Rattle.kex_leaps.proofs.RowScans.{class_is, row_in, outs_in, keep_in, goes_at, bare_at, scan_stays}

@@ -1,4 +1,4 @@
-use Rattle.std.proofs.Common.{◌≡◌, ◌∙◌, ◌<◌, List, length, sym, ap, subst, arith}
+use Rattle.std.proofs.Common.{◌≡◌, ◌∙◌, List, sym, ap, subst, arith}
 use Rattle.kex_held.specs.Tracks.{HeldList}
 use Rattle.kex_held.specs.HeldRows.{HeldRow}
 use Rattle.kex_held.specs.LearntEdges.{IsRowWithin}
