@@ -21,7 +21,7 @@ fn call<R: Threads + Sync, G: Gate + Sync>(
     shelf.put("p", program)?;
     let most = input.len().max(1);
     let mut input = MemSource::new(input, most, Vec::new(alloc));
-    let mut output = MemSink::new(alloc, 4_096, 4_096, Vec::new(alloc))?;
+    let mut output = MemSink::new(alloc, 32_768, 4_096, Vec::new(alloc))?;
     let status = kex(
         rt,
         alloc,
