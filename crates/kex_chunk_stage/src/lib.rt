@@ -1,6 +1,6 @@
 //! A stage whose input is worked on in parts at once, by guess.
 //!
-//! Uses the desks of a worker that knows its place, and on what a stage is made of. The worker
+//! Uses the desks of a worker that knows its place, and what a stage is made of. The worker
 //! goes by a table. Its place is the state of that, without registers, and where its actor stands.
 #![tactic(auto)]
 

@@ -1,6 +1,6 @@
 //! Texts that are gone along in parts, at once. The program doesn't use this today.
 //!
-//! Uses tables, whose summaries these are, and on the runner. `chunk` makes the summary of a
+//! Uses tables, whose summaries these are, and the runner. `chunk` makes the summary of a
 //! text, `compose` that of two texts, and `feed_many` feeds a runner by the summaries of the parts
 //! of a piece, which are made in threads.
 //!

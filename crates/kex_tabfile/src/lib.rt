@@ -1,6 +1,6 @@
 //! Table files: a program's text with the tables of its stages, line by line.
 //!
-//! Uses path trees, by which each line is made again and compared, and on `kex_compile` for
+//! Uses path trees, by which each line is made again and compared, and `kex_compile` for
 //! the machines of a text. A file that `check_table` takes has the tables of its text's machines;
 //! what `write_table` writes is such a file.
 #![tactic(auto)]
