@@ -28,9 +28,6 @@ number-front (x ∷ xs) ys y zero lt k = k
 number-front (x ∷ xs) ys y (suc i) lt k = number-front xs ys y i (omega (arith, lt)) k
 
 module _ {A : Type 0} (number : A → ℕ) where
-  pub stand-none : StandAtNumbers number []
-  stand-none = λ i x k. cc
-
   more : (xs : List A) (x : A) (n : ℕ) → number x ≡ suc n → n ≤ length xs → HasNumber (xs ++ x ∷ []) x n → StandAtNumbers number xs → StandAtNumbers number (xs ++ x ∷ [])
   more xs x n is le at stand = λ i y k. ⊎_elim
       (λ h. let s = stand i y h in (s.0, s.1, s.2, get_more xs (x ∷ []) s.0 y s.3))

@@ -1,6 +1,6 @@
 -- Where the stages of a program begin, one after the other.
-use Rattle.std.proofs.Common.{◌≡◌, ◌+◌, ◌<◌, ◌≤◌, ℕ, zero, suc, List, [], ◌∷◌, ◌++◌, length, take, drop, map, get_or, refl, ap, ◌∙◌, arith}
-use Rattle.std.proofs.lemmas.List.{length-map, length-take-le, map_more, take_all}
+use Rattle.std.proofs.Common.{◌≡◌, ◌+◌, ◌<◌, ◌≤◌, ℕ, zero, suc, List, [], ◌∷◌, ◌++◌, length, take, drop, map, get_or, refl, ap, arith}
+use Rattle.std.proofs.lemmas.List.{map_more, take_all}
 use Rattle.kex_model.specs.Programs.{Grammar}
 use Rattle.kex_model.specs.Trees.{root_of}
 use Rattle.kex_model.specs.declared.program.Start.{Start}
@@ -22,9 +22,6 @@ module _ (P : Grammar) where
   -- one more
   pub roots-more : (i : ℕ) (d : Start) → i < length P.stages → map start_at (take (i + 1) P.stages) ≡ map start_at (take i P.stages) ++ start_at (get_or P.stages i d) ∷ []
   roots-more i d lt = map_more start_at P.stages i d lt
-
-  pub so-many : (i : ℕ) → i ≤ length P.stages → length (map start_at (take i P.stages)) ≡ i
-  so-many i le = length-map (take i P.stages) start_at ∙ length-take-le i P.stages le
 
   -- all of them
   pub all-roots : (i : ℕ) → length P.stages ≤ i → map start_at (take i P.stages) ≡ roots_of P
