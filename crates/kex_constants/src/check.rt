@@ -16,6 +16,7 @@ use crate::known::{Constants, constant_of};
 use kex_code::memory::Memory;
 use kex_code::symbol::Symbol;
 use kex_machine::Bit;
+use kex_sst::fan::Fan;
 use kex_sst::parts::{Part, Parts, Update};
 use kex_sst::table::{Table, Transition};
 use std::alloc::Global;
@@ -128,7 +129,7 @@ fn transition_gives(
 
 // Whether all transitions of a state give constants where it holds its own.
 fn state_gives(
-    go: &[Option<Transition>],
+    go: &Fan,
     from: &[Option<Choices>],
     constants: &Constants,
     spare: &mut Choices,
@@ -136,7 +137,8 @@ fn state_gives(
     ensures { IfOk result (λ yes. IsTrue yes → (k : ℕ)
         → GivesIf constants.now from.now (transition_if (slice_get go.now k))) }
 {
-    for transition in go {
+    let (_numbers, different) = go.parts();
+    for transition in different {
         if !transition_gives(transition, from, constants, spare)? {
             return Ok(false);
         }

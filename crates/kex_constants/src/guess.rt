@@ -7,6 +7,7 @@ use crate::choices::Choices;
 use crate::known::{Constants, Known};
 use crate::shared::{SharedLists, is_same};
 use kex_code::memory::Memory;
+use kex_sst::fan::Fan;
 use kex_sst::parts::Update;
 use kex_sst::table::{Table, Transition};
 use std::alloc::Global;
@@ -96,12 +97,13 @@ impl Guess {
     }
 
     // Each transition of a state is a way into its target.
-    fn follow(&mut self, go: &[Option<Transition>], state: usize) -> Result<(), Memory> {
+    fn follow(&mut self, go: &Fan, state: usize) -> Result<(), Memory> {
         let Some(Some(known)) = self.states.get(state) else {
             return Ok(());
         };
         let known = Rc::clone(known)?;
-        for transition in go {
+        let (_numbers, different) = go.parts();
+        for transition in different {
             if let Some(Transition { target, update }) = transition {
                 self.meet(*target as usize, update.get(), known.constants())?;
             }

@@ -11,6 +11,7 @@ use crate::known::{Constants, Known, constant_of};
 use kex_code::memory::Memory;
 use kex_code::symbol::Symbol;
 use kex_machine::Bit;
+use kex_sst::fan::Fan;
 use kex_sst::parts::{Part, Parts, Update};
 use kex_sst::table::{State, Table, Transition};
 use kex_sst::updates::Updates;
@@ -106,21 +107,37 @@ fn clear_transition(
     }
 }
 
-fn clear_transitions(
+fn clear_all(
     alloc: Global,
-    go: &[Option<Transition>],
+    all: &[Option<Transition>],
     from: &Known,
     constants: &Constants,
     updates: &mut Updates,
 ) -> Result<Vec<Option<Transition>>, Memory>
     ensures { IfOk result (λ v. v.items
-        ≡ map (λ r. cleared_transition constants.now from.now r) go.now) }
+        ≡ map (λ r. cleared_transition constants.now from.now r) all.now) }
 {
-    let mut cleared = Vec::with_capacity(alloc, go.len())?;
-    for transition in go {
+    let mut cleared = Vec::with_capacity(alloc, all.len())?;
+    for transition in all {
         cleared.push(clear_transition(alloc, transition, from, constants, updates)?)?;
     }
     Ok(cleared)
+}
+
+// The transitions of a state: those that classes share stay shared.
+fn clear_transitions(
+    alloc: Global,
+    go: &Fan,
+    from: &Known,
+    constants: &Constants,
+    updates: &mut Updates,
+) -> Result<Fan, Memory>
+    ensures { IfOk result (λ f. f
+        ≡ map (λ r. cleared_transition constants.now from.now r) go.now) }
+{
+    let (numbers, different) = go.parts();
+    let cleared = clear_all(alloc, different, from, constants, updates)?;
+    Fan::from_parts(alloc, go.len(), numbers, cleared)
 }
 
 // What stands on the way to the leaf at which a text may end.

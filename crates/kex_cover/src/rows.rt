@@ -16,6 +16,7 @@ use kex_machine::Trimmed;
 use kex_machine::marks::Marks;
 use kex_paths::tree::PathTree;
 use kex_paths::workspace::Workspace;
+use kex_sst::fan::Fan;
 use kex_sst::parts::Update;
 use kex_sst::table::{State, Table, Transition};
 use kex_sst::updates::Updates;
@@ -144,18 +145,18 @@ fn transitions_of<'m>(
     lefts: &[PathTree<'m>],
     state: u32,
     tools: &mut RowTools<'m>,
-) -> Result<Vec<Option<Transition>>, Memory>
+) -> Result<Fan, Memory>
     requires left { AreStatesLeft tools.old.workspace table.now lefts.now }
     requires state { state < length table.now.states }
     requires long { length tools.old.marks ≡ length tools.old.workspace.nodes }
     ensures does { IfOk result (λ go. WhereLeft tools.old.workspace table.now lefts.now state
         (λ states s. AreBestTo tools.old.workspace (class_count table.now.classes)
-        table.now.classes states s go.items)) }
+        table.now.classes states s go)) }
     ensures workspace { tools.new.workspace ≡ tools.old.workspace }
     ensures long { length tools.new.marks ≡ length tools.old.marks }
 {
     let classes = table.partition().classes();
-    let mut go = Vec::with_capacity(alloc, usize::from(classes))?;
+    let mut go = Fan::with_capacity(alloc, classes)?;
     for class in 0..classes {
         let transition = transition_on(alloc, table, lefts, state, class as u8, tools)?;
         go.push(transition)?;
@@ -164,15 +165,10 @@ fn transitions_of<'m>(
 }
 
 // The state of a tree, with its transitions.
-fn state_of(
-    alloc: Global,
-    machine: &Trimmed,
-    left: &PathTree,
-    go: Vec<Option<Transition>>,
-) -> Result<State, Memory>
+fn state_of(alloc: Global, machine: &Trimmed, left: &PathTree, go: Fan) -> Result<State, Memory>
     requires { left.now.machine ≡ machine.now }
     ensures { IfOk result (λ row. (s : Shape ℕ) → IsOfShape left.now s
-        → IsRowWith machine.now s go.items row) }
+        → IsRowWith machine.now s go row) }
 {
     let shape = left.shape();
     let accepting = way_to_end(alloc, machine.nodes(), shape, left.leaves())?;

@@ -14,26 +14,12 @@ use crate::ends::way_to_end;
 use crate::refusal::DetRefusal;
 use crate::states::States;
 use kex_byteset::Partition;
-use kex_code::memory::Memory;
 use kex_machine::Trimmed;
 use kex_paths::tree::PathTree;
 use kex_paths::workspace::Workspace;
-use kex_sst::table::{State, Transition};
+use kex_sst::fan::Fan;
+use kex_sst::table::State;
 use std::alloc::Global;
-
-// The same transition again.
-fn copy_of(transition: &Option<Transition>) -> Result<Option<Transition>, Memory>
-    ensures { IfOk result (λ t. t ≡ transition.now) }
-{
-    let Some(Transition { target, update }) = transition else {
-        return Ok(None);
-    };
-    let update = update.copy()?;
-    Ok(Some(Transition {
-        target: *target,
-        update,
-    }))
-}
 
 // The first of these classes with which a tree goes on as it does with another, if there is one.
 fn alike_among<'m>(
@@ -63,7 +49,7 @@ fn transitions_of<'m>(
     partition: &Partition,
     states: &mut States<'m>,
     workspace: &mut Workspace<'m>,
-) -> Result<Vec<Option<Transition>>, DetRefusal>
+) -> Result<Fan, DetRefusal>
     requires classes { HasClasses workspace.old.nodes partition.now }
     requires few { states.old.most < 4294967295 }
     requires room { length states.old.trees.items ≤ states.old.most }
@@ -72,7 +58,7 @@ fn transitions_of<'m>(
         × (slice_get xs at ≡ Some s) }
     ensures ok { IfOk result (λ go. WhereNumbered workspace.old states.old.keys.keys
         states.old.trees.items at (λ xs s. (ys : List (Shape ℕ)) × AreTransitions workspace.old
-        partition.now states.new.keys.keys states.new.trees.items xs ys s go.items)) }
+        partition.now states.new.keys.keys states.new.trees.items xs ys s go)) }
     ensures workspace { OnOk result (workspace.new ≡ workspace.old) }
     ensures most { OnOk result (states.new.most ≡ states.old.most) }
     ensures within { OnOk result (length states.new.trees.items ≤ states.old.most) }
@@ -80,20 +66,20 @@ fn transitions_of<'m>(
         (WhereNumbered workspace.old states.old.keys.keys states.old.trees.items at (λ xs s.
         HasMoreFound workspace.old states.old.most))) }
 {
-    let mut go = Vec::with_capacity(alloc, usize::from(partition.classes()))?;
+    let mut go = Fan::with_capacity(alloc, partition.classes())?;
     // The classes that were walked.
     let mut walked = Vec::new(alloc);
     for class in 0..partition.classes() {
         let tree = &states.trees[at];
-        let transition = match alike_among(tree, workspace, &walked, class as u8) {
-            Some(earlier) => copy_of(&go[usize::from(earlier)])?,
+        match alike_among(tree, workspace, &walked, class as u8) {
+            Some(earlier) => go.repeat(earlier)?,
             None => {
                 walked.push(class as u8)?;
                 let next = tree.advance_shared(workspace, class as u8)?;
-                states.follow(alloc, next)?
+                let transition = states.follow(alloc, next)?;
+                go.push(transition)?;
             }
-        };
-        go.push(transition)?;
+        }
     }
     Ok(go)
 }

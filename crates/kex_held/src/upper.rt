@@ -218,7 +218,8 @@ fn look(
     let Some(state) = table.states().get(place.state as usize) else {
         return Ok(None);
     };
-    for transition in state.go() {
+    let (_numbers, different) = state.go().parts();
+    for transition in different {
         let Some(transition) = transition else {
             continue;
         };

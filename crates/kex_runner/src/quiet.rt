@@ -7,7 +7,7 @@ ghost use Rattle.kex_runner.specs.Quiet.{AreQuiet, IsGuide, IsQuietIf};
 use kex_code::memory::Memory;
 use kex_script::ids::UpdateId;
 use kex_script::script::{Entry, Script};
-use kex_sst::table::Table;
+use kex_sst::table::{State, Table};
 use std::alloc::Global;
 
 /// A row of quiet updates, by where it begins.
@@ -24,8 +24,8 @@ pub struct Quiet {
     pub update: UpdateId,
 }
 
-/// A script, and its quiet updates: of each state a row, by class. A row is 2 to the power of
-/// `shift` wide, so that the state of a row is found by a shift.
+/// A script, and its quiet updates: a row by class of each state up to the last that has registers.
+/// A row is 2 to the power of `shift` wide, so that the state of a row is found by a shift.
 #[derive(Drop)]
 pub struct Guide {
     pub script: Script,
@@ -86,6 +86,17 @@ fn shift_of(count: u16) -> u32
     shift
 }
 
+// How many states there are up to the last that has registers. No other is behind a quiet update.
+fn states_with_registers(states: &[State]) -> usize {
+    let mut count = 0;
+    for (number, state) in states.iter().enumerate() {
+        if state.registers() > 0 {
+            count = number + 1;
+        }
+    }
+    count
+}
+
 impl Guide {
     /// The script of a table, with its quiet updates.
     pub fn new(alloc: Global, table: &Table) -> Result<Guide, Memory>
@@ -95,9 +106,7 @@ impl Guide {
         let script = Script::new(alloc, table)?;
         let shift = shift_of(table.partition().classes());
         let width = 1 << shift;
-        let count = table
-            .states()
-            .len()
+        let count = states_with_registers(table.states())
             .saturating_mul(width)
             .min(NOWHERE as usize);
         let quiets = quiets_of(alloc, &script, width, count)?;

@@ -1,15 +1,18 @@
 -- Pages that grow: what stands stays.
-use Rattle.std.proofs.Common.{◌≡◌, ℕ, zero, suc, ◌+◌, ◌<◌, ◌≤◌, List, [], ◌∷◌, ◌++◌, ◌⊎◌, inl, inr, ⊎_elim, Option, Some, None, length, get_or, take, drop, refl, sym, ap, subst, ◌∙◌, append_assoc, arith}
+use Rattle.std.proofs.Common.{◌≡◌, ℕ, zero, suc, ◌+◌, ◌<◌, ◌≤◌, List, [], ◌∷◌, ◌++◌, ◌⊎◌, inl, inr, ⊎_elim, Option, Some, None, length, get_or, take, drop, refl, sym, ap, subst, ◌∙◌, arith}
 use Rattle.std.specs.Prelude.{slice_get}
 use Rattle.std.proofs.lemmas.Option.{slice_get_within, slice_get-get_or}
-use Rattle.std.proofs.lemmas.List.{get_or_append_left, get_or_push, length_push, take_more, take-append-drop}
+use Rattle.std.proofs.lemmas.List.{get_or_append_left, get_or_push, length_push, take-append-drop}
 use Rattle.kex_sst.specs.declared.parts.Part.{Part}
 use Rattle.kex_sst.specs.declared.table.Transition.{Transition}
 use Rattle.kex_sst.specs.Parts.{Change}
+use Rattle.kex_sst.specs.Tables.{Row}
 use Rattle.kex_script.specs.declared.script.Tail.{Tail}
 use Rattle.kex_script.specs.declared.script.Entry.{Entry}
-use Rattle.kex_script.specs.Scripts.{IsWord, IsTail, AreTails, no_entry}
-use Rattle.kex_script.specs.Pages.{Pages, KeepsItems, PagesGrow, IsListAt, AreListsAt, IsRow, HasRow, HasRowIf, AreEntries}
+use Rattle.kex_script.specs.declared.entries.EntryPlace.{EntryPlace}
+use Rattle.kex_script.specs.declared.entries.StateEntries.{StateEntries}
+use Rattle.kex_script.specs.Scripts.{IsWord, IsTail, AreTails}
+use Rattle.kex_script.specs.Pages.{Pages, KeepsItems, PagesGrow, IsListAt, AreListsAt, IsRow, HasRow, HasRowIf, IsEntryAt, IsClassAt, AreStatesWritten}
 
 pub keeps_same : {A : Type 0} (xs : List A) → KeepsItems xs xs
 keeps_same xs k x e = e
@@ -121,23 +124,61 @@ if_kept : (p q : Pages) (e : Entry) (r : Option Transition) → PagesGrow p q �
 if_kept p q e None g h = h
 if_kept p q e (Some r) g h = has_kept p q e r.target r.update g h
 
-pub entries_kept : (p q : Pages) (es : List Entry) (go : List (Option Transition)) → PagesGrow p q → AreEntries p es go → AreEntries q es go
-entries_kept p q es go g h = record { as_many = h.as_many; each = λ k lt. if_kept p q (get_or es k no_entry) (get_or go k None) g (h.each k lt) }
+pub entry_kept : (p q : Pages) (es fs : List Entry) (at : ℕ) (r : Option Transition) → PagesGrow p q → KeepsItems es fs → IsEntryAt p es at r → IsEntryAt q fs at r
+entry_kept p q es fs at r g keeps h = record { entry = h.entry; there = keeps at h.entry h.there; has = if_kept p q h.entry r g h.has }
 
 -- one more entry
-pub entries_next : (p q : Pages) (es es' : List Entry) (before go : List (Option Transition)) (i : ℕ) (e : Entry) (r : Option Transition) → i < length go → r ≡ get_or go i r → es' ≡ es ++ e ∷ [] → PagesGrow p q → AreEntries p es (before ++ take i go) → HasRowIf q e r → AreEntries q es' (before ++ take (i + 1) go)
-entries_next p q es es' before go i e r lt is more g h f =
-    let all : List (Option Transition) = before ++ take i go in
-    let whole : before ++ take (i + 1) go ≡ all ++ r ∷ [] = ap (λ z. before ++ z) (take_more go i r lt) ∙ sym (append_assoc before (take i go) (get_or go i r ∷ [])) ∙ ap (λ z. all ++ z ∷ []) (sym is) in
-    let old = entries_kept p q es all g h in
-    let new : AreEntries q (es ++ e ∷ []) (all ++ r ∷ []) = record {
-      as_many = omega (arith, length_push es e, length_push all r, h.as_many);
-      each = λ k less. ⊎_elim
-          (λ here. subst (λ z. HasRowIf q z (get_or (all ++ r ∷ []) k None)) (sym (get_or_append_left es (e ∷ []) no_entry k (omega (arith, here, h.as_many)))) (subst (λ z. HasRowIf q (get_or es k no_entry) z) (sym (get_or_append_left all (r ∷ []) None k here)) (old.each k here)))
-          (λ last. subst (λ z. HasRowIf q z (get_or (all ++ r ∷ []) k None)) (sym (get_or_push es e no_entry k (omega (arith, last, h.as_many)))) (subst (λ z. HasRowIf q e z) (sym (get_or_push all r None k (sym last))) f))
-          (below k (length all) (omega (arith, less, length_push all r)));
-    } in
-    subst (λ z. AreEntries q z (before ++ take (i + 1) go)) (sym more) (subst (λ z. AreEntries q (es ++ e ∷ []) z) (sym whole) new)
+pub entries_next : (p q : Pages) (es es' : List Entry) (all : List (Option Transition)) (from i : ℕ) (e : Entry) (r : Option Transition) → PagesGrow p q → ((k : ℕ) → k < i → IsEntryAt p es (from + k) (get_or all k None)) → length es ≡ from + i → es' ≡ es ++ e ∷ [] → r ≡ get_or all i None → HasRowIf q e r → (k : ℕ) → k < i + 1 → IsEntryAt q es' (from + k) (get_or all k None)
+entries_next p q es es' all from i e r g h long more is f k lt =
+    ⊎_elim
+    (λ less. entry_kept p q es es' (from + k) (get_or all k None) g (subst (λ z. KeepsItems es z) (sym more) (keeps_more es (e ∷ []))) (h k less))
+    (λ same.
+    let at : from + k ≡ length es = omega (arith, same, long) in
+    record {
+      entry = e;
+      there = ap (λ z. slice_get z (from + k)) more ∙ ap (λ z. slice_get (es ++ e ∷ []) z) at ∙ last_there es e;
+      has = subst (λ z. HasRowIf q e z) (is ∙ ap (λ z. get_or all z None) (sym same)) f;
+    })
+    (below k i lt)
+
+front_item : {A : Type 0} (xs : List A) (a x : A) (k : ℕ) → k < length xs → slice_get (xs ++ a ∷ []) k ≡ Some x → slice_get xs k ≡ Some x
+front_item [] a x k lt e = absurd (omega (arith, lt))
+front_item (y ∷ ys) a x zero lt e = e
+front_item (y ∷ ys) a x (suc k) lt e = front_item ys a x k (omega (arith, lt)) e
+
+last_item : {A : Type 0} (xs : List A) (a x : A) (k : ℕ) → k ≡ length xs → slice_get (xs ++ a ∷ []) k ≡ Some x → a ≡ x
+last_item xs a x k at e = same (sym (last_there xs a) ∙ ap (λ z. slice_get (xs ++ a ∷ []) z) (sym at) ∙ e)
+  where
+    same : {A : Type 0} {y z : A} → Some y ≡ Some z → y ≡ z
+    same e = cc
+
+class_kept : (p q : Pages) (ns ms : List ℕ) (es fs : List Entry) (x : EntryPlace) (class : ℕ) (r : Option Transition) → PagesGrow p q → KeepsItems ns ms → KeepsItems es fs → IsClassAt p ns es x class r → IsClassAt q ms fs x class r
+class_kept p q ns ms es fs x class r g numbers entries h = record {
+  number = h.number;
+  told = numbers (x.numbers + class) h.number h.told;
+  entry = entry_kept p q es fs (x.first + h.number) r g entries h.entry;
+}
+
+-- one more state
+module _ (p q : Pages) (a b : StateEntries) (before : List Row) (s : Row) (x : EntryPlace) (g : PagesGrow p q) (numbers : KeepsItems a.numbers.items b.numbers.items) (entries : KeepsItems a.entries.items b.entries.items) (places : b.places.items ≡ a.places.items ++ x ∷ []) where
+  pub states_next : AreStatesWritten p a before → ((class : ℕ) → class < length s.go → IsClassAt q b.numbers.items b.entries.items x class (get_or s.go class None)) → AreStatesWritten q b (before ++ s ∷ [])
+  states_next h new = record {
+    as_many = omega (arith, ap length places, length_push a.places.items x, length_push before s, h.as_many);
+    zeros = λ k lt. numbers k 0 (h.zeros k lt);
+    each = λ i r y at there.
+        let placed : slice_get (a.places.items ++ x ∷ []) i ≡ Some y = ap (λ z. slice_get z i) (sym places) ∙ there in
+        let within = slice_get_within (before ++ s ∷ []) i r at in
+        ⊎_elim
+        (λ less class lt. class_kept p q a.numbers.items b.numbers.items a.entries.items b.entries.items y class (get_or r.go class None) g numbers entries
+        (h.each i r y (front_item before s r i less at) (front_item a.places.items x y i (omega (arith, less, h.as_many)) placed) class lt))
+        (λ same class lt.
+        let row : s ≡ r = last_item before s r i same at in
+        let place : x ≡ y = last_item a.places.items x y i (omega (arith, same, h.as_many)) placed in
+        subst (λ z. IsClassAt q b.numbers.items b.entries.items z class (get_or r.go class None)) place
+        (subst (λ (z : Row). IsClassAt q b.numbers.items b.entries.items x class (get_or z.go class None)) row
+        (new class (subst (λ (z : Row). class < length z.go) (sym row) lt))))
+        (below i (length before) (omega (arith, within, length_push before s)));
+  }
 
 -- one more list in the rows
 pub lists_next : (p q : Pages) (k i : ℕ) (lists : List (List Part)) (parts : List Part) → PagesGrow p q → AreListsAt p k i lists → length p.rows ≡ k + i → IsListAt q (length p.rows) parts → parts ≡ get_or lists i [] → AreListsAt q k (i + 1) lists

@@ -1,17 +1,18 @@
 -- What is read of a script.
-use Rattle.std.proofs.Common.{◌≡◌, ℕ, zero, suc, ◌+◌, ◌*◌, ◌<◌, ◌≤◌, List, [], ◌∷◌, ◌++◌, ⊎_elim, Option, Some, None, flat_map, length, get_or, refl, sym, ap, ap₂, subst, ◌∙◌, arith}
+use Rattle.std.proofs.Common.{◌≡◌, ℕ, zero, suc, ◌+◌, ◌<◌, ◌≤◌, List, [], ◌∷◌, ⊎_elim, Option, Some, None, length, get_or, refl, sym, ap, ap₂, subst, ◌∙◌, arith}
 use Rattle.std.specs.Prelude.{slice_get}
-use Rattle.std.proofs.lemmas.Option.{get_or_from_slice_get}
-use Rattle.std.proofs.lemmas.List.{get_or_append_left, get_or-append-add, get_or_past}
-use native.Mathlib.Nat.{suc-mul, add_comm}
+use Rattle.std.proofs.lemmas.Option.{get_or_from_slice_get, slice_get_past}
+use Rattle.std.proofs.lemmas.List.{get_or_past}
 use Rattle.std.proofs.lemmas.Bool.{cases_lt}
 use Rattle.kex_sst.specs.declared.parts.Part.{Part}
 use Rattle.kex_sst.specs.declared.table.Transition.{Transition}
 use Rattle.kex_sst.specs.Parts.{Change}
 use Rattle.kex_sst.specs.Tables.{Row, transition_if, transition_on}
 use Rattle.kex_script.specs.declared.script.Entry.{Entry}
-use Rattle.kex_script.specs.Scripts.{Sheet, list_at, lists_from, change_at, AreTails, HasUpdate, IsEntryOf, no_entry}
-use Rattle.kex_script.specs.Pages.{Pages, IsListAt, AreListsAt, IsRow, HasRow, HasRowIf, AreEntries}
+use Rattle.kex_script.specs.declared.entries.EntryPlace.{EntryPlace}
+use Rattle.kex_script.specs.declared.entries.StateEntries.{StateEntries}
+use Rattle.kex_script.specs.Scripts.{Sheet, list_at, lists_from, change_at, AreTails, HasUpdate, IsEntryOf, entry_at, entry_in, no_entry}
+use Rattle.kex_script.specs.Pages.{Pages, IsListAt, AreListsAt, IsRow, HasRow, HasRowIf, IsClassAt, AreStatesWritten}
 
 pub given_at : (s : Sheet) (k n i : ℕ) → i < n → get_or (lists_from s k n) i [] ≡ list_at s (get_or s.rows (k + i) 0)
 given_at s k zero i lt = absurd (omega arith)
@@ -25,6 +26,16 @@ given_past s k (suc n) (suc i) le = given_past s (suc k) n i (omega arith)
 
 pub empty_list : (s : Sheet) → AreTails s.words s.lists s.tails → list_at s 0 ≡ []
 empty_list s h = get_or_from_slice_get s.lists 0 [] [] h.empty
+
+if_at : (go : List (Option Transition)) (class : ℕ) → transition_if (slice_get go class) ≡ get_or go class None
+if_at [] class = refl
+if_at (x ∷ xs) zero = refl
+if_at (x ∷ xs) (suc class) = if_at xs class
+
+item_at : {A : Type 0} (xs : List A) (k : ℕ) → k < length xs → (x : A) × (slice_get xs k ≡ Some x)
+item_at [] k lt = absurd (omega (arith, lt))
+item_at (x ∷ xs) zero lt = (x, refl)
+item_at (x ∷ xs) (suc k) lt = item_at xs k (omega (arith, lt))
 
 module _ (s : Sheet) (p : Pages) (lists : s.lists ≡ p.lists) (rows : s.rows ≡ p.rows) where
   read_list : (k : ℕ) (parts : List Part) → IsListAt p k parts → list_at s (get_or s.rows k 0) ≡ parts
@@ -56,33 +67,34 @@ module _ (s : Sheet) (p : Pages) (lists : s.lists ≡ p.lists) (rows : s.rows �
   is_entry e None h = h
   is_entry e (Some r) h = has_update e r.target r.update h
 
-  -- the entries, one behind the other, are those of the transitions
-  pub entry_there : (es : List Entry) (go : List (Option Transition)) (k : ℕ) → AreEntries p es go → IsEntryOf s (get_or es k no_entry) (get_or go k None)
-  entry_there es go k h =
-      ⊎_elim
-      (λ lt. is_entry (get_or es k no_entry) (get_or go k None) (h.each k lt))
-      (λ le. subst (λ z. IsEntryOf s (get_or es k no_entry) z) (sym (get_or_past go k None le)) (ap (λ z. z.goes) (get_or_past es k no_entry (omega (arith, le, h.as_many)))))
-      (cases_lt k (length go))
+  -- the entry of a class whose number is told
+  entry_told : (x : EntryPlace) (class : ℕ) (r : Option Transition) → IsClassAt p s.numbers s.entries x class r → IsEntryOf s (entry_in s (Some x) class) r
+  entry_told x class r h =
+      let e = h.entry in
+      let number : get_or s.numbers (x.numbers + class) 0 ≡ h.number = get_or_from_slice_get s.numbers (x.numbers + class) h.number 0 h.told in
+      let there : entry_in s (Some x) class ≡ e.entry =
+      ap (λ z. get_or s.entries (x.first + z) no_entry) number ∙ get_or_from_slice_get s.entries (x.first + h.number) e.entry no_entry e.there in
+      subst (λ z. IsEntryOf s z r) (sym there) (is_entry e.entry r e.has)
 
-if_at : (go : List (Option Transition)) (class : ℕ) → transition_if (slice_get go class) ≡ get_or go class None
-if_at [] class = refl
-if_at (x ∷ xs) zero = refl
-if_at (x ∷ xs) (suc class) = if_at xs class
+  -- what the states do that were written
+  module _ (all : StateEntries) (states : List Row) (h : AreStatesWritten p all states) (places : s.places ≡ all.places.items) (numbers : s.numbers ≡ all.numbers.items) (entries : s.entries ≡ all.entries.items) (n : ℕ) (wide : (i : ℕ) (r : Row) → slice_get states i ≡ Some r → length r.go ≡ n) where
+    some_state : (state class : ℕ) (r : Row) (x : EntryPlace) → slice_get states state ≡ Some r → slice_get all.places.items state ≡ Some x → class < n → IsEntryOf s (entry_in s (Some x) class) (transition_if (slice_get r.go class))
+    some_state state class r x at there lt =
+        let here = h.each state r x at there class (omega (arith, lt, wide state r at)) in
+        subst (λ z. IsEntryOf s (entry_in s (Some x) class) z) (sym (if_at r.go class))
+        (entry_told x class (get_or r.go class None) (subst (λ z. IsClassAt p z s.entries x class (get_or r.go class None)) (sym numbers) (subst (λ z. IsClassAt p all.numbers.items z x class (get_or r.go class None)) (sym entries) here)))
 
-module _ (width class : ℕ) (lt : class < width) where
-  pub flat_at : (states : List Row) → ((i : ℕ) (s : Row) → slice_get states i ≡ Some s → length s.go ≡ width) → (state : ℕ) → get_or (flat_map (λ (s : Row). s.go) states) (state * width + class) None ≡ transition_on (slice_get states state) class
-  flat_at [] same state = get_or_past {X = Option Transition} [] (state * width + class) None (omega arith)
-  flat_at (s ∷ ss) same zero =
-      let here : 0 * width + class ≡ class = omega arith in
-      ap (λ z. get_or (s.go ++ flat_map (λ (s : Row). s.go) ss) z None) here
-      ∙ get_or_append_left s.go (flat_map (λ (s : Row). s.go) ss) None class (omega (arith, lt, same 0 s refl))
-      ∙ sym (if_at s.go class)
-  flat_at (s ∷ ss) same (suc state) =
-      let long = same 0 s refl in
-      let there : suc state * width + class ≡ length s.go + (state * width + class) = omega (arith, long, mul-suc state width) in
-      ap (λ z. get_or (s.go ++ flat_map (λ (s : Row). s.go) ss) z None) there
-      ∙ get_or-append-add s.go (flat_map (λ (s : Row). s.go) ss) (state * width + class) None
-      ∙ flat_at ss (λ i x e. same (suc i) x e) state
-    where
-      mul-suc : (n m : ℕ) → suc n * m ≡ m + n * m
-      mul-suc n m = suc-mul n m ∙ add_comm (n * m) m
+    pub state_does : (state class : ℕ) → class < n → IsEntryOf s (entry_at s state class) (transition_on (slice_get states state) class)
+    state_does state class lt =
+        ⊎_elim
+        (λ less.
+        let row = item_at states state less in
+        let place = item_at all.places.items state (omega (arith, less, h.as_many)) in
+        subst (λ z. IsEntryOf s (entry_at s state class) (transition_on z class)) (sym row.1)
+        (subst (λ z. IsEntryOf s (entry_in s z class) (transition_if (slice_get row.0.go class))) (sym (ap (λ z. slice_get z state) places ∙ place.1))
+        (some_state state class row.0 place.0 row.1 place.1 lt)))
+        (λ le.
+        let none : slice_get s.places state ≡ None = ap (λ z. slice_get z state) places ∙ slice_get_past all.places.items state (omega (arith, le, h.as_many)) in
+        subst (λ z. IsEntryOf s (entry_at s state class) (transition_on z class)) (sym (slice_get_past states state le))
+        (ap (λ o. (entry_in s o class).goes) none))
+        (cases_lt state (length states))

@@ -4,10 +4,13 @@ use Rattle.std.specs.Prelude.{None, ◌↔◌, get_or, slice_get, length, take, 
 use Rattle.kex_sst.specs.declared.parts.Part.{Part}
 use Rattle.kex_sst.specs.declared.table.Transition.{Transition}
 use Rattle.kex_sst.specs.Parts.{Change, olds, olds_in}
+use Rattle.kex_sst.specs.Tables.{Row}
 use Rattle.kex_script.specs.declared.script.Tail.{Tail}
 use Rattle.kex_script.specs.declared.script.Entry.{Entry}
+use Rattle.kex_script.specs.declared.entries.EntryPlace.{EntryPlace}
+use Rattle.kex_script.specs.declared.entries.StateEntries.{StateEntries}
 use Rattle.kex_script.specs.declared.writer.Segment.{Segment}
-use Rattle.kex_script.specs.Scripts.{AreTails, if_old, no_entry}
+use Rattle.kex_script.specs.Scripts.{AreTails, if_old}
 
 pub record Pages : Type 0 where
   pub words : List (List Part)
@@ -72,8 +75,27 @@ abbrev pub HasRowIf : Pages → Entry → Option Transition → Type 0
 HasRowIf p e None = e.goes ≡ false
 HasRowIf p e (Some r) = HasRow p e r.target r.update
 
--- the entries are those of these transitions, one for one
-pub record AreEntries (p : Pages) (entries : List Entry)
-    (go : List (Option Transition)) : Type 0 where
-  pub as_many : length entries ≡ length go
-  pub each : (k : ℕ) → k < length go → HasRowIf p (get_or entries k no_entry) (get_or go k None)
+-- an entry stands at a place, of this transition or of none
+pub record IsEntryAt (p : Pages) (entries : List Entry) (at : ℕ)
+    (r : Option Transition) : Type 0 where
+  pub entry : Entry
+  pub there : slice_get entries at ≡ Some entry
+  pub has : HasRowIf p entry r
+
+-- a class of a state has a number, and by that its entry
+pub record IsClassAt (p : Pages) (numbers : List ℕ) (entries : List Entry) (x : EntryPlace)
+    (class : ℕ) (r : Option Transition) : Type 0 where
+  pub number : ℕ
+  pub told : slice_get numbers (x.numbers + class) ≡ Some number
+  pub entry : IsEntryAt p entries (x.first + number) r
+
+abbrev pub BeginsWithZeros : List ℕ → Type 0
+BeginsWithZeros numbers = (k : ℕ) → k < 256 → slice_get numbers k ≡ Some 0
+
+-- these states have their places, and the entries of their transitions
+pub record AreStatesWritten (p : Pages) (all : StateEntries) (states : List Row) : Type 0 where
+  pub as_many : length all.places.items ≡ length states
+  pub zeros : BeginsWithZeros all.numbers.items
+  pub each : (i : ℕ) (s : Row) (x : EntryPlace) → slice_get states i ≡ Some s
+      → slice_get all.places.items i ≡ Some x → (class : ℕ) → class < length s.go
+      → IsClassAt p all.numbers.items all.entries.items x class (get_or s.go class None)

@@ -1,6 +1,6 @@
 -- Scripts: lists of parts by number, each also from its end; updates in rows of such numbers; and
 -- what each state does on each class.
-use Rattle.std.specs.Prelude.{◌≡◌, ℕ, zero, suc, ◌+◌, ◌*◌, ◌<◌, true, false, List, [], ◌∷◌, ◌++◌}
+use Rattle.std.specs.Prelude.{◌≡◌, ℕ, zero, suc, ◌+◌, ◌<◌, true, false, List, [], ◌∷◌, ◌++◌}
 use Rattle.std.specs.Prelude.{Option, Some, None, ◌↔◌, get_or, slice_get, length}
 use Rattle.kex_byteset.specs.Classes.{class_count}
 use Rattle.kex_sst.specs.declared.parts.Part.{Part}
@@ -9,6 +9,7 @@ use Rattle.kex_sst.specs.declared.parts.Part.TheVariants.{Put, Old, Input}
 use Rattle.kex_sst.specs.declared.table.Transition.{Transition}
 use Rattle.kex_sst.specs.Parts.{Change, olds, olds_in}
 use Rattle.kex_sst.specs.Tables.{Transducer, IsTable, transition_of}
+use Rattle.kex_script.specs.declared.entries.EntryPlace.{EntryPlace}
 use Rattle.kex_script.specs.declared.letters.Letters.{Letters}
 use Rattle.kex_script.specs.declared.script.Tail.{Tail}
 use Rattle.kex_script.specs.declared.script.Entry.{Entry}
@@ -19,8 +20,9 @@ pub record Sheet : Type 0 where
   pub tails : List Tail
   pub rows : List ℕ
   pub initial : Entry
+  pub places : List EntryPlace
+  pub numbers : List ℕ
   pub entries : List Entry
-  pub width : ℕ
 
 abbrev pub list_at : Sheet → ℕ → List Part
 list_at s n = get_or s.lists n []
@@ -42,9 +44,15 @@ abbrev pub no_entry : Entry
 no_entry =
     record { goes = false; silent = false; fresh = false; target = 0; update = 0; registers = 0 }
 
+-- the entry of a class's number, among those of the state whose place this is
+abbrev pub entry_in : Sheet → Option EntryPlace → ℕ → Entry
+entry_in s None class = no_entry
+entry_in s (Some x) class =
+    get_or s.entries (x.first + get_or s.numbers (x.numbers + class) 0) no_entry
+
 -- what a state does on a class
 abbrev pub entry_at : Sheet → ℕ → ℕ → Entry
-entry_at s state class = get_or s.entries (state * s.width + class) no_entry
+entry_at s state class = entry_in s (slice_get s.places state) class
 
 abbrev pub if_old : Option ℕ → List Part
 if_old None = []

@@ -16,6 +16,7 @@
 //! five bytes along it.
 #![tactic(auto)]
 
+pub mod entries;
 pub mod ids;
 pub mod interned;
 pub mod letters;

@@ -5,6 +5,7 @@ ghost use Rattle.std.specs.Prelude.{MatchOption, get_or, slice_get, length};
 ghost use Rattle.kex_script.specs.Scripts.{AreLetters, IsScriptOf, IsTail, change_at, entry_at};
 ghost use Rattle.kex_script.specs.Scripts.{list_at};
 
+use crate::entries::StateEntries;
 use crate::ids::{ListId, UpdateId, WordId};
 use crate::letters::Letters;
 use crate::writer::Writer;
@@ -40,7 +41,7 @@ pub struct Entry {
 
 /// The lists of a table's updates by number, each as parts and from its end, and their words. The
 /// updates, in rows: a count of registers, the list that is passed on, and a list for each
-/// register. An entry for each state and class. Each symbol is a word.
+/// register. For each state its entries, which classes share. Each symbol is a word.
 #[derive(Drop)]
 pub struct Script {
     words: Vec<Parts>,
@@ -49,8 +50,7 @@ pub struct Script {
     tails: Vec<Tail>,
     rows: Vec<u32>,
     initial: Entry,
-    entries: Vec<Entry>,
-    width: u16,
+    states: StateEntries,
 }
 
 impl Model for Script {
@@ -65,8 +65,9 @@ impl Model for Script {
           tails = s.tails.items;
           rows = s.rows.items;
           initial = s.initial;
-          entries = s.entries.items;
-          width = s.width;
+          places = s.states.places.items;
+          numbers = s.states.numbers.items;
+          entries = s.states.entries.items;
         } };
 
     ghost invariant = { λ s. AreTails s.words.items s.lists.items s.tails.items
@@ -91,7 +92,7 @@ impl Script {
     {
         let mut writer = Writer::new(alloc)?;
         let initial = writer.transition(0, table.initial())?;
-        let entries = writer.entries(alloc, table.states())?;
+        let states = writer.write_states(alloc, table.states())?;
         let letters = writer.letters()?;
         let (words, lists, tails, rows) = writer.finish();
         Ok(Script {
@@ -101,8 +102,7 @@ impl Script {
             tails,
             rows,
             initial,
-            entries,
-            width: table.partition().classes(),
+            states,
         })
     }
 
@@ -132,8 +132,17 @@ impl Script {
     pub fn entry(&self, state: u32, class: u8) -> Entry
         ensures { result ≡ entry_at self.now state class }
     {
-        let at = state as usize * usize::from(self.width) + usize::from(class);
-        match self.entries.get(at) {
+        let states = &self.states;
+        let Some(place) = states.places.get(state as usize) else {
+            return Entry::none();
+        };
+        let class_place = place.numbers as usize + usize::from(class);
+        let number = match states.numbers.get(class_place) {
+            Some(number) => *number,
+            None => 0,
+        };
+        let entry_place = place.first as usize + usize::from(number);
+        match states.entries.get(entry_place) {
             Some(entry) => *entry,
             None => Entry::none(),
         }

@@ -1,16 +1,16 @@
 // Writes the lists of updates down, each once.
 
-ghost use Rattle.std.specs.Prelude.{◌≡◌, ◌+◌, ◌<◌, ◌≤◌, List, [], ◌∷◌, ◌++◌, Option, Some, None};
-ghost use Rattle.std.specs.Prelude.{true, false, IfOk, OnOk, IfSome, ◌↔◌, flat_map, length, get_or};
+ghost use Rattle.std.specs.Prelude.{◌≡◌, ℕ, ◌+◌, ◌<◌, ◌≤◌, List, [], ◌∷◌, ◌++◌, Option, Some, None};
+ghost use Rattle.std.specs.Prelude.{true, false, IfOk, OnOk, IfSome, ◌↔◌, length, get_or};
 ghost use Rattle.std.specs.Prelude.{slice_get, take, drop};
 ghost use Rattle.kex_sst.specs.Parts.{olds, olds_in};
 ghost use Rattle.kex_sst.specs.Tables.{Row};
-ghost use Rattle.kex_sst.specs.declared.table.Transition.{Transition};
 ghost use Rattle.kex_script.specs.Scripts.{AreLetters, IsWord};
-ghost use Rattle.kex_script.specs.Pages.{AreEntries, AreListsAt, AreSound, PagesGrow, HasRow};
+ghost use Rattle.kex_script.specs.Pages.{AreListsAt, AreSound, AreStatesWritten, PagesGrow, HasRow};
 ghost use Rattle.kex_script.specs.Pages.{HasRowIf, IsJoined, IsListAt, IsRow, IsSegment};
-ghost use Rattle.kex_script.specs.Pages.{KeepsItems};
+ghost use Rattle.kex_script.specs.Pages.{BeginsWithZeros, IsEntryAt, KeepsItems};
 
+use crate::entries::{EntryPlace, StateEntries, put_numbers};
 use crate::ids::{ListId, UpdateId, WordId};
 use crate::interned::Interned;
 use crate::letters::Letters;
@@ -18,6 +18,7 @@ use crate::rows::Rows;
 use crate::script::{Entry, Tail};
 use kex_code::memory::Memory;
 use kex_code::symbol::Symbol;
+use kex_sst::fan::Fan;
 use kex_sst::parts::{Part, Parts, Update};
 use kex_sst::table::{State, Transition};
 use std::alloc::Global;
@@ -282,35 +283,58 @@ impl Writer {
         }
     }
 
-    // The entries of a state are put behind others.
-    fn state(&mut self, go: &[Option<Transition>], entries: &mut Vec<Entry>) -> Result<(), Memory>
+    // The entries of transitions are put behind others.
+    fn write_entries(
+        &mut self,
+        all: &[Option<Transition>],
+        entries: &mut Vec<Entry>,
+    ) -> Result<(), Memory>
         requires sound { AreSound self.old }
-        ensures entries { OnOk result ((before : List (Option Transition))
-            → AreEntries self.old entries.old.items before
-            → AreEntries self.new entries.new.items (before ++ go.now)) }
+        ensures entries { OnOk result ((k : ℕ) → k < length all.now → IsEntryAt self.new
+            entries.new.items (length entries.old.items + k) (get_or all.now k None)) }
+        ensures kept { OnOk result (KeepsItems entries.old.items entries.new.items) }
         ensures sound { OnOk result (AreSound self.new) }
         ensures grown { OnOk result (PagesGrow self.old self.new) }
     {
-        for transition in go {
+        for transition in all {
             let entry = self.entry(transition)?;
             entries.push(entry)?;
         }
         Ok(())
     }
 
-    /// The entries of all states, one state behind the other.
-    pub fn entries(&mut self, alloc: Global, states: &[State]) -> Result<Vec<Entry>, Memory>
+    // A state is put behind others.
+    fn write_state(&mut self, go: &Fan, states: &mut StateEntries) -> Result<(), Memory>
         requires sound { AreSound self.old }
-        ensures entries { IfOk result (λ es.
-            AreEntries self.new es.items (flat_map (λ (s : Row). s.go) states.now)) }
+        requires zeros { BeginsWithZeros states.old.numbers.items }
+        ensures states { OnOk result ((before : List Row) (s : Row) → s.go ≡ go.now
+            → AreStatesWritten self.old states.old before
+            → AreStatesWritten self.new states.new (before ++ s ∷ [])) }
         ensures sound { OnOk result (AreSound self.new) }
         ensures grown { OnOk result (PagesGrow self.old self.new) }
     {
-        let mut entries = Vec::new(alloc);
+        let Ok(first) = u32::try_from(states.entries.len()) else {
+            return Err(Memory);
+        };
+        let (numbers, different) = go.parts();
+        let numbers = put_numbers(&mut states.numbers, numbers, go.len())?;
+        self.write_entries(different, &mut states.entries)?;
+        states.places.push(EntryPlace { numbers, first })?;
+        Ok(())
+    }
+
+    /// What all states do.
+    pub fn write_states(&mut self, alloc: Global, states: &[State]) -> Result<StateEntries, Memory>
+        requires sound { AreSound self.old }
+        ensures states { IfOk result (λ a. AreStatesWritten self.new a states.now) }
+        ensures sound { OnOk result (AreSound self.new) }
+        ensures grown { OnOk result (PagesGrow self.old self.new) }
+    {
+        let mut all = StateEntries::new(alloc)?;
         for state in states {
-            self.state(state.go(), &mut entries)?;
+            self.write_state(state.go(), &mut all)?;
         }
-        Ok(entries)
+        Ok(all)
     }
 
     /// The numbers of the words of one symbol.

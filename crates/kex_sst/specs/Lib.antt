@@ -1,5 +1,7 @@
 pub mod Parts
 pub mod Tables
+pub mod Fans
+pub mod Fanned
 pub mod Passes
 pub mod Laws
 pub mod Series

@@ -7,10 +7,12 @@
 //! its states, as `specs/Summaries` says.
 #![tactic(auto)]
 
+pub mod fan;
 pub mod laws;
 pub mod parts;
 pub mod series;
 pub mod shared;
+mod shared_fan;
 pub mod summaries;
 pub mod summary;
 pub mod table;

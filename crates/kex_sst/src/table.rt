@@ -4,6 +4,7 @@ ghost use Rattle.std.specs.Prelude.{◌≡◌, ◌<◌, ℕ, Option, Some, None,
 ghost use Rattle.kex_byteset.specs.Classes.{class_count};
 ghost use Rattle.kex_sst.specs.Tables.{IsTable, Row, transition_of};
 
+use crate::fan::Fan;
 use crate::parts::{Parts, Update};
 use crate::shared::SharedUpdate;
 use kex_byteset::Partition;
@@ -22,7 +23,7 @@ pub struct Transition {
 pub struct State {
     registers: u32,
     accepting: Option<Parts>,
-    go: Vec<Option<Transition>>,
+    go: Fan,
 }
 
 impl Model for State {
@@ -31,14 +32,15 @@ impl Model for State {
     ghost Value = { Row };
 
     ghost view = { λ s.
-        record { registers = s.registers; accepting = s.accepting; go = s.go.items } };
+        record { registers = s.registers; accepting = s.accepting; go = s.go } };
 }
 
 impl State {
     /// The state of these parts, which are moved.
-    pub fn new(registers: u32, accepting: Option<Parts>, go: Vec<Option<Transition>>) -> State
-        ensures { result ≡ record { registers = registers; accepting = accepting; go = go.items } }
+    pub fn new(registers: u32, accepting: Option<Parts>, mut go: Fan) -> State
+        ensures { result ≡ record { registers = registers; accepting = accepting; go = go } }
     {
+        go.shrink_to_fit();
         State {
             registers,
             accepting,
@@ -62,7 +64,7 @@ impl State {
     }
 
     /// The transitions, by class.
-    pub fn go(&self) -> &[Option<Transition>]
+    pub fn go(&self) -> &Fan
         ensures { result.now ≡ self.now.go }
     {
         &self.go
@@ -137,7 +139,7 @@ impl Table {
             transition_of self.now state class ≡ Some (record { target = r.0; update = r.1.now })) }
     {
         let state = &self.states[state as usize];
-        match &state.go[usize::from(class)] {
+        match state.go.at(class) {
             None => None,
             Some(transition) => Some((transition.target, transition.update.get())),
         }

@@ -23,6 +23,7 @@ use kex_determine::ends::way_to_end;
 use kex_machine::Trimmed;
 use kex_paths::tree::PathTree;
 use kex_paths::workspace::Workspace;
+use kex_sst::fan::Fan;
 use kex_sst::parts::{Parts, Update};
 use kex_sst::table::{State, Transition};
 use kex_sst::updates::Updates;
@@ -164,7 +165,7 @@ impl<'m> StageChecker<'m> {
         reader: &mut TableReader,
         workspace: &mut Workspace<'m>,
         state: u32,
-    ) -> Result<Vec<Option<Transition>>, TableRefusal>
+    ) -> Result<Fan, TableRefusal>
         requires machine { workspace.old ≡ self.old.machine.now }
         requires some { 0 < self.old.states }
         requires classes { HasClasses self.old.machine.now.nodes self.old.partition.now }
@@ -176,10 +177,10 @@ impl<'m> StageChecker<'m> {
             → IsAmong told.targets (record { state = state; tree = s })
             → (after : List Target)
             × ChecksAt self.old.machine.now self.new.targets self.old.states (suc state)
-            (record told { targets = after; rows = told.rows ++ go.items ∷ [] })
+            (record told { targets = after; rows = told.rows ++ go ∷ [] })
             × Checks self.old.machine.now self.old.numbers.items self.old.partition.now reader.old
             (at_class told s [])
-            (at_state (record told { targets = after; rows = told.rows ++ go.items ∷ [] }))
+            (at_state (record told { targets = after; rows = told.rows ++ go ∷ [] }))
             reader.new) }
         ensures bad { IfErr result (λ e. (told : Told) (s : Shape ℕ)
             → ChecksAt self.old.machine.now self.old.targets self.old.states state told
@@ -194,7 +195,7 @@ impl<'m> StageChecker<'m> {
         ensures workspace { OnOk result (workspace.new ≡ workspace.old) }
     {
         let classes = self.partition.classes();
-        let mut go = Vec::with_capacity(self.alloc, usize::from(classes))?;
+        let mut go = Fan::with_capacity(self.alloc, classes)?;
         'classes: for class in 0..classes {
             let transition = self.take_class(reader, workspace, state, class as u8)?;
             go.push(transition)?;

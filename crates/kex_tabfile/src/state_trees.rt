@@ -14,7 +14,7 @@ use kex_code::memory::Memory;
 use kex_machine::Trimmed;
 use kex_paths::tree::PathTree;
 use kex_paths::workspace::Workspace;
-use kex_sst::table::Transition;
+use kex_sst::fan::Fan;
 use std::alloc::Global;
 
 /// The numbers of a machine's places, and the trees of the states that were met, by number.
@@ -76,7 +76,7 @@ impl<'m> StateTrees<'m> {
     }
 
     /// A state goes on: the targets that are new have their trees from it.
-    pub(crate) fn meet_all(&mut self, state: usize, go: &[Option<Transition>]) -> Result<(), Memory>
+    pub(crate) fn meet_all(&mut self, state: usize, go: &Fan) -> Result<(), Memory>
         requires state { state < length self.old.trees.items }
         requires machine { AreTreesOf self.old.workspace self.old.trees.items }
         requires classes { length go.now ≤ 256 }
@@ -91,7 +91,7 @@ impl<'m> StateTrees<'m> {
             × (length self.new.trees.items ≡ n)) }
     {
         for class in 0..go.len() {
-            if let Some(transition) = &go[class] {
+            if let Some(transition) = go.at(class as u8) {
                 self.meet(state, class as u8, transition.target)?;
             }
         }

@@ -16,17 +16,18 @@ use crate::spell::{
 use crate::state_trees::StateTrees;
 use kex_code::memory::Memory;
 use kex_machine::Trimmed;
-use kex_sst::table::{Table, Transition};
+use kex_sst::fan::Fan;
+use kex_sst::table::Table;
 use kex_stage::plan::Plan;
 use std::alloc::Global;
 
 // Writes the lines by which a state goes on.
-fn write_goes(state: u32, go: &[Option<Transition>], out: &mut Vec<u8>) -> Result<(), Memory>
+fn write_goes(state: u32, go: &Fan, out: &mut Vec<u8>) -> Result<(), Memory>
     requires { length go.now ≤ 256 }
     ensures { OnOk result (out.new.items ≡ out.old.items ++ goes_text state 0 go.now) }
 {
     for class in 0..go.len() {
-        if let Some(transition) = &go[class] {
+        if let Some(transition) = go.at(class as u8) {
             push_go_front(state, class as u8, out)?;
             push_go_rest(transition.target, transition.update.get(), out)?;
         }

@@ -21,7 +21,7 @@ loop-state-preserved c =
     let t = c.args.table.now in
     let lefts = c.args.lefts.now in
     let n = c.loop-state.state in
-    let go = c.in_ok-go.go.items in
+    let go = c.in_ok-go.go in
     let row = c.in_ok-row.row in
     let moved : WhereLeft g t lefts n (λ states s. AreBestTo g (class_count t.classes) t.classes states s go) =
     subst (λ z. WhereLeft z t lefts n (λ states s. AreBestTo z (class_count t.classes) t.classes states s go)) c.loop-state.invariant.workspace c.in_ok-go.ensures.does in

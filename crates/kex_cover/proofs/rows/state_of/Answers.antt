@@ -42,7 +42,7 @@ returns c = λ s is.
     let one : sound.shape ≡ s = shape_same c.args.left.now sound.shape s (sound.inner_is, sound.places_are) is in
     let count : length c.args.left.now.machine.nodes ≡ length c.nodes.result.now = ap (λ z. length z.nodes) c.requires ∙ ap length (sym c.nodes.ensures.same) in
     let below : EachPlace (length c.nodes.result.now) s = subst (EachPlace (length c.nodes.result.now)) one (subst (λ z. EachPlace z sound.shape) count sound.in_range) in
-    subst (λ z. IsRowWith c.args.machine.now s c.args.go.items z) (sym c.new.ensures) (record {
+    subst (λ z. IsRowWith c.args.machine.now s c.args.go z) (sym c.new.ensures) (record {
       registers = omega (arith, here, some top);
       ends = subst (λ z. c.in_ok-accepting.accepting ≡ way_to (first_accepting (node_moves z) (numbered_tree 0 s))) c.nodes.ensures.same (c.in_ok-accepting.ensures s (c.shape-shape.ensures.same ∙ is.0) (c.leaves.ensures ∙ is.1) below);
       goes = refl;

@@ -1,4 +1,5 @@
-use Rattle.std.proofs.Common.{◌≡◌, ℕ, ◌+◌, ◌<◌, sym, subst, ◌∙◌}
+use Rattle.std.proofs.Common.{◌≡◌, ℕ, ◌+◌, ◌<◌, length, sym, ap, subst, ◌∙◌, arith}
+use Rattle.std.proofs.lemmas.List.{length_push}
 use Rattle.kex_byteset.specs.Classes.{class_at}
 use Rattle.kex_cover.specs.Keeping.{AreBestTo, WhereLeft}
 use Rattle.kex_cover.specs.Optimal.{DoesBest}
@@ -15,7 +16,8 @@ loop-class-preserved c =
       does = λ k s at.
           let here : WhereLeft g t c.args.lefts.now c.args.state (λ states s. (b : ℕ) → b < 256 → class_at t.classes b ≡ n → DoesBest g states s b r) =
           subst (λ z. WhereLeft z t c.args.lefts.now c.args.state (λ states s. (b : ℕ) → b < 256 → class_at t.classes b ≡ n → DoesBest z states s b r)) c.loop-class.invariant.workspace c.in_ok-transition.ensures.does in
-          subst (λ z. AreBestTo g (n + 1) t.classes k.left.states s z) (sym c.in_ok-push.ensures.items) (one_transition g t.classes k.left.states s n c.loop-class.go.items r (c.loop-class.invariant.does k s at) (here k s at));
+          subst (λ z. AreBestTo g (n + 1) t.classes k.left.states s z) (sym c.in_ok-push.ensures) (one_transition g t.classes k.left.states s n c.loop-class.go r (c.loop-class.invariant.does k s at) (here k s at));
+      size = omega (arith, ap length c.in_ok-push.ensures, length_push c.loop-class.go r, c.loop-class.invariant.size);
       workspace = c.in_ok-transition.ensures.workspace ∙ c.loop-class.invariant.workspace;
       long = c.in_ok-transition.ensures.long ∙ c.loop-class.invariant.long;
     }

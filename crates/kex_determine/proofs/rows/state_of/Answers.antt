@@ -13,10 +13,10 @@ use Rattle.kex_determine.proofs.rows.state_of.Goals as goal
 use Rattle.kex_determine.proofs.rows.state_of.Goals.{After-leaves}
 
 module _ (c : After-leaves) (xs : List (Shape ℕ)) (s : Shape ℕ) (n : AreNumbered c.args.machine.now c.args.states.now.keys.keys c.args.states.now.trees.items xs) (at : slice_get xs c.args.at ≡ Some s) where
-  trans : (ys : List (Shape ℕ)) × AreTransitions c.args.machine.now c.args.partition.now c.transitions_of.new.states.keys.keys c.transitions_of.new.states.trees.items xs ys s c.in_ok-go.go.items
+  trans : (ys : List (Shape ℕ)) × AreTransitions c.args.machine.now c.args.partition.now c.transitions_of.new.states.keys.keys c.transitions_of.new.states.trees.items xs ys s c.in_ok-go.go
   trans =
       let q = c.in_ok-go.ensures.ok xs s (subst (λ z. AreNumbered z c.args.states.now.keys.keys c.args.states.now.trees.items xs) (sym c.requires.machine) n) at in
-      (q.0, subst (λ z. AreTransitions z c.args.partition.now c.transitions_of.new.states.keys.keys c.transitions_of.new.states.trees.items xs q.0 s c.in_ok-go.go.items) c.requires.machine q.1)
+      (q.0, subst (λ z. AreTransitions z c.args.partition.now c.transitions_of.new.states.keys.keys c.transitions_of.new.states.trees.items xs q.0 s c.in_ok-go.go) c.requires.machine q.1)
 
   met : IsMet c.args.machine.now c.index-tree.result.now s
   met = tree_at c.args.machine.now c.transitions_of.new.states.keys.keys c.transitions_of.new.states.trees.items trans.0 c.args.at s c.index-tree.result.now trans.1.numbered (get_later c.args.machine.now xs trans.0 c.args.at s trans.1.begins at) c.index-tree.ensures

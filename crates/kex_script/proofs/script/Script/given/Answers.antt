@@ -1,12 +1,12 @@
 use Rattle.std.proofs.Common.{◌≡◌, suc, ◌+◌, [], get_or, sym, ap, subst, ◌∙◌, arith}
-use Rattle.kex_script.specs.Scripts.{Sheet, list_at}
+use Rattle.kex_script.specs.Scripts.{Sheet, list_at, AreTails}
 use Rattle.kex_script.proofs.ScriptReads.{given_at, given_past, empty_list}
 use Rattle.kex_script.proofs.script.Script.given.Goals as goal
 
 pub returns-then-register-number_at : goal.returns-then-register-number_at
 returns-then-register-number_at c =
     let s = c.args.self.now in
-    let empty : list_at s 0 ≡ [] = subst (λ (z : Sheet). list_at z 0 ≡ []) c.self.view_is (empty_list (record { words = c.self.inside.words.items; lists = c.self.inside.lists.items; tails = c.self.inside.tails.items; rows = c.self.inside.rows.items; initial = c.self.inside.initial; entries = c.self.inside.entries.items; width = c.self.inside.width }) c.self.invariant.0) in
+    let empty : list_at s 0 ≡ [] = empty_list s (subst (λ (z : Sheet). AreTails z.words z.lists z.tails) c.self.view_is c.self.invariant.0) in
     let count : c.number_at.result ≡ get_or s.rows c.args.update 0 = c.number_at.ensures ∙ ap (λ z. get_or z c.args.update 0) (c.deref.ensures.value ∙ ap (λ (z : Sheet). z.rows) c.self.view_is) in
     empty ∙ sym (given_past s (suc (suc c.args.update)) (get_or s.rows c.args.update 0) c.args.register (omega (arith, c.if-register-number_at.true, count)))
 

@@ -9,12 +9,12 @@ use Rattle.kex_tabfile.proofs.rows.StageChecker.take_goes.Given as goal
 
 abbrev pub invariant-classes : goal.invariant-classes
 invariant-classes l = record {
-  long : length l.go.items ≡ l.class;
+  long : length l.go ≡ l.class;
   kept : l.self ≡ record l.fn.self {
     targets = l.self.targets;
     updates = l.self.updates;
     line = l.self.line;
   };
   workspace : l.workspace ≡ l.fn.workspace;
-  so_far : (told : Told) (s : Shape ℕ) → ChecksAt l.fn.self.machine.now l.fn.self.targets l.fn.self.states l.fn.state told → IsAmong told.targets (target l.fn.state s) → GoesSoFar l.fn.self.machine.now l.fn.self.numbers.items l.fn.self.partition.now l.fn.self.states l.fn.state l.fn.reader told s l.self.targets l.go.items l.reader;
+  so_far : (told : Told) (s : Shape ℕ) → ChecksAt l.fn.self.machine.now l.fn.self.targets l.fn.self.states l.fn.state told → IsAmong told.targets (target l.fn.state s) → GoesSoFar l.fn.self.machine.now l.fn.self.numbers.items l.fn.self.partition.now l.fn.self.states l.fn.state l.fn.reader told s l.self.targets l.go l.reader;
 }

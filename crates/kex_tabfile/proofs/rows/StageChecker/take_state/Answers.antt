@@ -78,8 +78,8 @@ returns-clause-right c = λ told st.
           subst (λ z. Checks self.machine.now self.numbers.items self.partition.now c.args.reader.now (at_state told) (at_class told r.0 []) z) (sym w.reader-is)
           (subst (λ z. Checks self.machine.now self.numbers.items self.partition.now c.args.reader.now (at_state told) z c.take_state_line.new.reader) is r.3)
     ] in
-    let right = subst (λ z. GoesCheck z.machine.now z.numbers.items z.partition.now z.states z.targets c.take_goes.new.self.targets c.args.state c.in_ok-go.go.items c.if-state-eq0.reader c.take_goes.new.reader) kept c.in_ok-go.ensures.right in
+    let right = subst (λ z. GoesCheck z.machine.now z.numbers.items z.partition.now z.states z.targets c.take_goes.new.self.targets c.args.state c.in_ok-go.go c.if-state-eq0.reader c.take_goes.new.reader) kept c.in_ok-go.ensures.right in
     let k = right told r.0 st r.1 in
-    let row : Row = record { registers = c.in_ok-registers.registers; accepting = c.in_ok-registers.accepting; go = c.in_ok-go.go.items } in
+    let row : Row = record { registers = c.in_ok-registers.registers; accepting = c.in_ok-registers.accepting; go = c.in_ok-go.go } in
     subst (λ z. (s : Shape ℕ) × (after : List Target) × IsAmong told.targets (target c.args.state s) × HasEnds self.machine.now s z.registers z.accepting × ChecksAt self.machine.now c.take_goes.new.self.targets self.states (suc c.args.state) (record told { targets = after; rows = told.rows ++ z.go ∷ [] }) × Checks self.machine.now self.numbers.items self.partition.now c.args.reader.now (at_state told) (at_state (record told { targets = after; rows = told.rows ++ z.go ∷ [] })) c.take_goes.new.reader) (sym c.new.ensures)
     (r.0, k.0, r.1, r.2, k.1, checks_on self.machine.now self.numbers.items self.partition.now c.args.reader.now c.if-state-eq0.reader c.take_goes.new.reader (at_state told) (at_class told r.0 []) (at_state (record told { targets = k.0; rows = told.rows ++ row.go ∷ [] })) begun k.2)

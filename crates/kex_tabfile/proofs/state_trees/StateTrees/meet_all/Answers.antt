@@ -1,7 +1,7 @@
 use Rattle.std.proofs.Common.{◌≡◌, ◌+◌, ◌≤◌, [], None, Some, drop, length, refl, sym, ap, subst, ◌∙◌, arith}
 use Rattle.std.specs.Prelude.{slice_get}
 use Rattle.std.proofs.lemmas.List.{drop_all}
-use Rattle.std.proofs.lemmas.Option.{slice_get_read}
+use Rattle.std.proofs.lemmas.Option.{slice_get-get_or}
 use Rattle.kex_determine.specs.Determined.{MeetsInOrder, targets_of}
 use Rattle.kex_tabfile.specs.Writing.{AreFirstTrees, AreTreesOf, GoesOnTo}
 use Rattle.kex_tabfile.proofs.StateSteps.{targets_some, targets_none}
@@ -14,8 +14,8 @@ loop-class-preserved c =
     let go = c.args.go.now in
     let i = c.loop-class.class in
     let inv = c.loop-class.invariant in
-    let at : slice_get go i ≡ Some c.index-go-class.result = slice_get_read go (length go) i c.index-go-class.result refl c.loop-class-test.true c.index-go-class.is in
-    elim c.match-go-class.branch [
+    let at : slice_get go i ≡ Some c.at.result.now = slice_get-get_or go i None (omega (arith, c.loop-class-test.true, c.len-class-end.ensures.long)) ∙ ap (λ z. Some z) (sym c.at.ensures) in
+    elim c.match-at.branch [
       | in-Some+in_ok-meet w ↦ (
           let r = w.in-Some.transition in
           let here : slice_get go i ≡ Some (Some r) = at ∙ ap (λ z. Some z) w.in-Some.is in
@@ -51,5 +51,5 @@ returns-clause-met c = λ shapes s n first own each order.
     let go = c.args.go.now in
     let i = c.loop-class.class in
     let old = c.loop-class.invariant.met shapes s n first own each order in
-    let none : drop i go ≡ [] = drop_all i go c.loop-class-test.false in
+    let none : drop i go ≡ [] = drop_all i go (omega (arith, c.loop-class-test.false, c.len-class-end.ensures.long)) in
     (old.0, subst (λ z. MeetsInOrder (length c.loop-class.self.trees.items) (targets_of z) n) none old.1)

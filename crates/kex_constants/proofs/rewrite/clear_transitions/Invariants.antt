@@ -1,6 +1,0 @@
-use Rattle.std.proofs.Common.{◌≡◌, map, take}
-use Rattle.kex_constants.specs.Clearing.{cleared_transition}
-use Rattle.kex_constants.proofs.rewrite.clear_transitions.Given as goal
-
-abbrev pub invariant-loop-transition : goal.invariant-loop-transition
-invariant-loop-transition l = l.cleared.items ≡ map (λ r. cleared_transition l.constants l.from r) (take l.transition-index l.go)
