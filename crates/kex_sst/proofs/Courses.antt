@@ -12,10 +12,10 @@ use Rattle.kex_sst.specs.declared.summary.Course.{Course}
 use Rattle.kex_sst.specs.declared.summary.Course.TheVariants.{Gone, Goes}
 use Rattle.kex_sst.specs.declared.table.Transition.{Transition}
 use Rattle.kex_sst.specs.Parts.{Change, EachPart, parts_code, value, olds, olds_in, reads_of}
-use Rattle.kex_sst.specs.Tables.{Row, Transducer, IsTable, LeadsTo}
+use Rattle.kex_sst.specs.Tables.{Row, Transducer, IsTable}
 use Rattle.kex_sst.specs.Passes.{Pass, pass_after, next_of, next_pass, passes_if}
-use Rattle.kex_sst.specs.Series.{read_part, read_parts, substitute, then_update, with_read, olds_from, identity, ReadsNothing, series_of}
-use Rattle.kex_sst.specs.Summaries.{next_course_by, next_course, course_along, course_of, courses_from, Sum, sum_of, then_by, then_of, then_sum, passed_by, IsComposed, Determined, DoesAsSaid, IsCopyless, IsCourseOf, IsSum, IsSumInRange}
+use Rattle.kex_sst.specs.Series.{read_parts, substitute, then_update, with_read, olds_from, identity, ReadsNothing, series_of}
+use Rattle.kex_sst.specs.Summaries.{next_course_by, next_course, course_along, course_of, courses_from, Sum, then_by, then_of, then_sum, passed_by, IsComposed, Determined, DoesAsSaid, IsCopyless, IsCourseOf, IsSumInRange}
 use Rattle.kex_sst.proofs.Passes.{passes_none, leads_on}
 
 pub map-same : {A B : Type 0} (f g : A → B) (xs : List A) → ((x : A) → f x ≡ g x) → map f xs ≡ map g xs

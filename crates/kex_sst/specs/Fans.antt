@@ -17,5 +17,5 @@ pub record IsFan (classes : ℕ) (numbers : List ℕ)
     (different : List (Option Transition)) : Type 0 where
   pub few : classes ≤ 256
   pub short : length numbers ≤ classes
-  pub many : length different ≤ 256
+  pub many : length different ≤ classes
   pub each : (class : ℕ) → class < classes → get_or numbers class 0 < length different

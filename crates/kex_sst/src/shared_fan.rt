@@ -86,19 +86,18 @@ fn number_of(
     different: &mut Vec<Option<Transition>>,
     transition: Option<Transition>,
 ) -> Result<u8, Memory>
-    requires { length different.old.items ≤ 256 }
+    requires { length different.old.items < 256 }
     ensures at { IfOk result (λ n. slice_get different.new.items n ≡ Some transition) }
     ensures kept { (k : ℕ) → k < length different.old.items
         → get_or different.new.items k None ≡ get_or different.old.items k None }
     ensures longer { length different.old.items ≤ length different.new.items }
-    ensures many { length different.new.items ≤ 256 }
+    ensures one { length different.new.items ≤ length different.old.items + 1 }
+    ensures none { OnErr result (length different.new.items ≤ length different.old.items) }
 {
     if let Some(number) = find(different, &transition) {
         return Ok(number as u8);
     }
-    let Ok(number) = u8::try_from(different.len()) else {
-        return Err(Memory);
-    };
+    let number = different.len() as u8;
     different.push(transition)?;
     Ok(number)
 }
@@ -163,8 +162,13 @@ impl SharedFan {
         requires { length self.old < 256 }
         ensures { OnOk result (self.new ≡ self.old ++ transition ∷ []) }
     {
+        let class = usize::from(self.classes);
         let number = number_of(&mut self.different, transition)?;
-        put_number(&mut self.numbers, usize::from(self.classes), number)?;
+        if let Err(full) = put_number(&mut self.numbers, class, number) {
+            // There are no more transitions than classes.
+            self.different.truncate(class);
+            return Err(full);
+        }
         self.classes += 1;
         Ok(())
     }

@@ -1,4 +1,4 @@
-use Rattle.std.proofs.Common.{◌≡◌, ◌+◌, take, sym, ap, ap₂, ◌∙◌}
+use Rattle.std.proofs.Common.{take, sym, ap, ap₂, ◌∙◌}
 use Rattle.std.proofs.lemmas.List.{take_more}
 use Rattle.kex_sst.specs.Series.{series_of, then_update}
 use Rattle.kex_sst.proofs.Courses.{series_push}

@@ -36,7 +36,7 @@ pub invariant_of-self-2 : goal.invariant_of-self-2
 invariant_of-self-2 c = record {
   few = omega (arith, c.requires.few, long c);
   short = omega (arith, c.in_ok-put_number.ensures.short, c.from-2.ensures);
-  many = c.self.invariant.many;
+  many = omega (arith, c.self.invariant.many);
   each = each c;
 }
 
