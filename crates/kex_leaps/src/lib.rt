@@ -4,6 +4,7 @@
 #![tactic(auto)]
 
 pub mod act;
+mod copy;
 mod credit;
 pub mod leaps;
 mod mark;

@@ -1,22 +1,23 @@
 // What is done along a leap is done by the actor.
 
-ghost use Rattle.std.specs.Prelude.{◌≡◌, ◌<◌, ◌≤◌, ◌+◌, OnOk, IsTrue, length};
+ghost use Rattle.std.specs.Prelude.{◌≡◌, ◌<◌, ◌≤◌, ◌+◌, ◌-◌, OnOk, IsTrue, length};
 ghost use Rattle.kex_machine.specs.Nodes.{node_moves};
 ghost use Rattle.kex_action.specs.Actions.{after_move};
-ghost use Rattle.kex_action.specs.Holdings.{with_bytes};
 ghost use Rattle.kex_action.specs.Sheets.{IsSheet, IsAsLong, Writes, state_with};
 ghost use Rattle.kex_held.specs.Acts.{after_act, after_acts};
+ghost use Rattle.kex_held.specs.Slices.{slice_between};
 ghost use Rattle.kex_leaps.specs.Leaps.{act_in, acts_in, IsActWithin, AreActsWithin};
 
 use crate::act::LeapAct;
+use crate::copy::{AT_ONCE, copy_at_once};
 use kex_action::action::Action;
 use kex_action::actor::Actor;
 use kex_action::sheet::Sheet;
 use kex_code::memory::Memory;
 
 // Writes bytes on a sheet.
-#[inline(always)]
-fn put_on(sheet: &mut Sheet, text: &[u8])
+#[inline(never)]
+fn put_many(sheet: &mut Sheet, text: &[u8])
     requires sheet { IsSheet sheet.old }
     requires room { sheet.old.used + length text.now ≤ length sheet.old.bytes.items }
     ensures written { Writes sheet.old sheet.new text.now }
@@ -26,6 +27,28 @@ fn put_on(sheet: &mut Sheet, text: &[u8])
     let end = sheet.used + text.len();
     sheet.bytes[sheet.used..end].copy_from_slice(text);
     sheet.used = end;
+}
+
+// Writes a part of a piece on a sheet. A few bytes are copied as sixteen where there are as many.
+#[inline(always)]
+fn put_on(sheet: &mut Sheet, piece: &[u8], from: usize, to: usize)
+    requires part { (from ≤ to) × (to ≤ length piece.now) }
+    requires sheet { IsSheet sheet.old }
+    requires room { sheet.old.used + (to - from) ≤ length sheet.old.bytes.items }
+    ensures written { Writes sheet.old sheet.new (slice_between piece.now from to) }
+    ensures sheet { IsSheet sheet.new }
+    ensures long { IsAsLong sheet.old sheet.new }
+{
+    let used = sheet.used;
+    let count = to - from;
+    let left = piece.len() - from;
+    let room = sheet.bytes.len() - used;
+    if count <= AT_ONCE && left >= AT_ONCE && room >= AT_ONCE {
+        copy_at_once(piece, from, &mut sheet.bytes, used);
+        sheet.used = used + count;
+        return;
+    }
+    put_many(sheet, &piece[from..to]);
 }
 
 // Hands on what stands on a sheet, where there is no room for so many bytes.
@@ -53,31 +76,6 @@ fn make_place(
         return Ok(());
     }
     actor.hand_on(node, sheet, out)?;
-    Ok(())
-}
-
-// Writes bytes on a sheet. Where there is no room for them what stands on it is handed on first.
-#[inline(always)]
-fn write(
-    node: u32,
-    text: &[u8],
-    actor: &mut Actor,
-    sheet: &mut Sheet,
-    out: &mut Vec<u8>,
-) -> Result<(), Memory>
-    requires usable { IsTrue actor.old.usable }
-    requires node { node < length actor.old.machine.nodes }
-    requires sheet { IsSheet sheet.old }
-    requires room { length text.now ≤ length sheet.old.bytes.items }
-    ensures did { OnOk result (state_with sheet.new out.new.items actor.new.holding
-        ≡ with_bytes text.now (state_with sheet.old out.old.items actor.old.holding)) }
-    ensures sheet { OnOk result (IsSheet sheet.new × IsAsLong sheet.old sheet.new) }
-    ensures same { (actor.new.machine ≡ actor.old.machine)
-        × (actor.new.refused ≡ actor.old.refused) }
-    ensures usable { OnOk result (IsTrue actor.new.usable) }
-{
-    make_place(node, text.len(), actor, sheet, out)?;
-    put_on(sheet, text);
     Ok(())
 }
 
@@ -134,13 +132,18 @@ fn perform_one(
     ensures usable { OnOk result (IsTrue actor.new.usable) }
 {
     match one {
-        LeapAct::Text { from, to } => write(node, &piece[from..to], actor, sheet, out),
+        LeapAct::Text { from, to } => {
+            make_place(node, to - from, actor, sheet, out)?;
+            put_on(sheet, piece, from, to);
+            Ok(())
+        }
         LeapAct::Effect(by) => act(node, by, actor, sheet, out),
     }
 }
 
 /// Does acts of a piece, one after another, on a sheet, and goes by a node where that has to be
-/// handed on meanwhile.
+/// handed on meanwhile. Not inlined, like `scan_on`.
+#[inline(never)]
 pub fn perform(
     node: u32,
     piece: &[u8],
