@@ -52,8 +52,8 @@ fn place(marks: &[usize], at: usize, item: HeldItem) -> LeapAct
     }
 }
 
-// Puts items behind acts.
-#[inline(always)]
+// Puts items behind acts. Most edges have none, so it isn't inlined.
+#[inline(never)]
 fn put_acts(
     marks: &[usize],
     at: usize,
@@ -72,7 +72,7 @@ fn put_acts(
 }
 
 // Puts points of an edge behind one another.
-#[inline(always)]
+#[inline(never)]
 fn put_points(marks: &[usize], at: usize, keep: &[u8], out: &mut Vec<usize>) -> Result<(), Memory>
     requires fits { at + 1 < 2 ^ 64 }
     requires kept { AreKept (length marks.now + 2) keep.now }
@@ -104,7 +104,13 @@ fn keep_front(marks: &mut Vec<usize>, at: usize, edge: &KnownEdge) -> Result<boo
     ensures same { IfOk result (λ b. b ≡ false → marks.new.items ≡ marks.old.items) }
 {
     let keep = edge.keep();
-    let front = edge.firsts().min(marks.len());
+    let firsts = edge.firsts();
+    // All marks and the place of the byte, as at most edges.
+    if firsts == keep.len() && firsts == marks.len() + 1 {
+        marks.push(at)?;
+        return Ok(true);
+    }
+    let front = firsts.min(marks.len());
     if front == keep.len() {
         marks.truncate(front);
         return Ok(true);
@@ -169,7 +175,9 @@ impl Trace {
         ensures marks { OnOk result (self.new.marks.items
             ≡ marks_by (points_at at self.old.marks.items) edge.now.keep) }
     {
-        put_acts(&self.marks, at, edge.outs(), &mut self.acts)?;
+        if !edge.outs().is_empty() {
+            put_acts(&self.marks, at, edge.outs(), &mut self.acts)?;
+        }
         keep_points(&mut self.marks, &mut self.spare, at, edge)
     }
 }
