@@ -1,7 +1,7 @@
 -- A scan goes on along what is noted of rows.
 use Rattle.std.proofs.Common.{◌≡◌, ℕ, zero, suc, ◌≤◌, ◌<◌, ◌+◌, List, [], ◌∷◌, ◌++◌, Some, All, length, take, get_or, refl, sym, ap, ap₂, subst, ◌∙◌, arith, append-nil, append_assoc}
 use Rattle.std.specs.Prelude.{slice_get}
-use Rattle.std.proofs.lemmas.List.{take_more, map-append, length-map, length-take-le, get_or-map, ext_get_or}
+use Rattle.std.proofs.lemmas.List.{take_more, take-append-le, map-append, length-append, length-map, length-take-le, get_or-map, ext_get_or}
 use Rattle.std.proofs.lemmas.List.Elements.{All-append}
 use Rattle.std.proofs.lemmas.Option.{slice_get-get_or, slice_get_within}
 use Rattle.kex_byteset.specs.Classes.{class_at}
@@ -236,3 +236,14 @@ keeps_more a b d p q = record {
 -- with the same table and machine
 pub scan_over : (t t' : Transducer) (g g' : Graph) (rows : List HeldRow) (q n : ℕ) (piece : List ℕ) (at row : ℕ) (marks : List ℕ) (acts : List LeapAct) → t ≡ t' → g ≡ g' → HasScanned t g.nodes rows q n piece at row marks acts → HasScanned t' g'.nodes rows q n piece at row marks acts
 scan_over t t' g g' rows q n piece at row marks acts e f s = subst (λ (g : Graph). HasScanned t' g.nodes rows q n piece at row marks acts) f (subst (λ t. HasScanned t g.nodes rows q n piece at row marks acts) e s)
+
+-- acts are put behind others
+pub more_acts : (first acts more acts' : List LeapAct) → (l : List LeapAct) × (acts ≡ first ++ l) → acts' ≡ acts ++ more → (l : List LeapAct) × (acts' ≡ first ++ l)
+more_acts first acts more acts' h e = (h.0 ++ more, e ∙ ap (λ l. l ++ more) h.1 ∙ append_assoc first h.0 more)
+
+-- the front of acts stays where more come behind them
+pub acts_front : (first acts : List LeapAct) (n : ℕ) → n ≤ length first → (l : List LeapAct) × (acts ≡ first ++ l) → take n acts ≡ take n first
+acts_front first acts n le h = ap (take n) h.1 ∙ take-append-le n first h.0 le
+
+pub acts_grow : (first acts : List LeapAct) (n : ℕ) → n ≤ length first → (l : List LeapAct) × (acts ≡ first ++ l) → n ≤ length acts
+acts_grow first acts n le h = omega (arith, le, ap (λ (l : List LeapAct). length l) h.1 ∙ length-append first h.0)

@@ -3,7 +3,7 @@
 /// How much may be learnt before the first scan counts. An edge costs its row's lists, and one.
 const FIRST: u64 = 2_048;
 
-/// This many scans allow for one list more.
+/// This many scans and leaps allow for one list more.
 const SCANS: u64 = 64;
 
 /// After this many scans in a row without a leap there is a rest, and after each more.
@@ -38,8 +38,13 @@ impl Credit {
             self.rest -= 1;
             return false;
         }
-        self.scans = self.scans.saturating_add(1);
+        self.count_leap();
         true
+    }
+
+    /// A scan goes on over one more leap, which counts like a scan.
+    pub fn count_leap(&mut self) {
+        self.scans = self.scans.saturating_add(1);
     }
 
     /// A scan has found a leap, or none.

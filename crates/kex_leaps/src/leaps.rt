@@ -62,8 +62,9 @@ impl<'p> Leaps<'p> {
         })
     }
 
-    /// Goes along a piece from a state without registers, where the actor is at a node, up to the
-    /// next such state. `None` where the piece ends before that, and where it can't be learnt.
+    /// Goes along a piece from a state without registers, where the actor is at a node, up to
+    /// another such state: over one leap, and those that follow it at once. `None` where the piece
+    /// ends before that, and where it can't be learnt.
     pub fn scan(&mut self, state: u32, node: u32, piece: &[u8]) -> Result<Option<Leap>, Memory>
         requires state { state < length self.old.table.states }
         requires node { node < length self.old.machine.nodes }
@@ -94,7 +95,7 @@ impl<'p> Leaps<'p> {
         Ok(found)
     }
 
-    /// Does what is to be done for the leap of a piece along which it has gone last, on a sheet.
+    /// Does what is to be done for the leaps of a piece along which it has gone last, on a sheet.
     /// Where that has to be handed on meanwhile the actor is at the node.
     pub fn perform(
         &self,

@@ -1,6 +1,6 @@
-// How rows of held text are gone along.
+// How rows of held text are gone along, over one leap or several that follow one another.
 
-ghost use Rattle.std.specs.Prelude.{◌≡◌, ◌<◌, ◌≤◌, ℕ, List, [], Some, IfOk, IfSome, IsTrue, length};
+ghost use Rattle.std.specs.Prelude.{◌≡◌, ◌<◌, ◌≤◌, ◌++◌, ℕ, List, [], Some, IfOk, IfSome, length};
 ghost use Rattle.std.specs.Prelude.{slice_get, take};
 ghost use Rattle.kex_held.specs.HeldRows.{HeldRow};
 ghost use Rattle.kex_held_rows.specs.Books.{rows_in, bare_row, KeepsRows};
@@ -16,7 +16,7 @@ use kex_held_rows::book::RowLedger;
 use kex_held_rows::note::RowNote;
 use kex_sst::table::Table;
 
-/// So many bytes, and the state and the node to which they lead.
+/// So many bytes, and the state and the node to which they lead, over one leap or several.
 #[derive(Clone, Copy, Debug, PartialEq, Eq)]
 pub struct Leap {
     pub count: usize,
@@ -38,6 +38,17 @@ pub enum ScanEnd {
     Unknown,
     Nowhere,
 }
+
+/// Where a scan came last to a row that holds nothing, and how many acts are done up to there.
+#[derive(Clone, Copy, Debug, PartialEq, Eq)]
+pub struct BarePoint {
+    pub at: usize,
+    pub row: u32,
+    pub acts: usize,
+}
+
+/// How many acts there may be before a scan goes on over one more leap.
+const MOST_ACTS: usize = 1_024;
 
 /// Where a scan has come to, and why it ended.
 #[derive(Clone, Copy, Debug, PartialEq, Eq)]
@@ -72,8 +83,20 @@ fn stay(ledger: &RowLedger, table: &Table, row: u32, piece: &[u8], from: usize) 
     at
 }
 
+// Why a scan ends at a note by which it can't go on.
+fn end_at(note: &RowNote) -> ScanEnd
+    ensures { ¬ (result ≡ ScanEnd.Bare) }
+{
+    match note {
+        RowNote::Unknown => ScanEnd::Unknown,
+        _ => ScanEnd::Nowhere,
+    }
+}
+
 /// Goes along a piece by what is noted of rows, up to a row that holds nothing, or a byte at which
-/// no edge is known.
+/// no edge is known. Not inlined: within a long caller what the loop reads for each byte would
+/// stand in memory.
+#[inline(never)]
 pub fn scan_on(
     ledger: &RowLedger,
     table: &Table,
@@ -91,6 +114,8 @@ pub fn scan_on(
         trace.old.marks.items trace.old.acts.items → HasScanned ledger.now.table
         ledger.now.machine.nodes (rows_in ledger.now.rows) q n piece.now stop.at stop.row
         trace.new.marks.items trace.new.acts.items) }
+    ensures acts { IfOk result (λ stop. (more : List LeapAct)
+        × (trace.new.acts.items ≡ trace.old.acts.items ++ more)) }
     ensures at { IfOk result (λ stop. stop.at ≤ length piece.now) }
     ensures unknown { IfOk result (λ stop. stop.end ≡ ScanEnd.Unknown
         → stop.at < length piece.now) }
@@ -113,12 +138,8 @@ pub fn scan_on(
                     return Ok(ScanStop { at, row, end });
                 }
             }
-            RowNote::Plain => {
-                let end = ScanEnd::Nowhere;
-                return Ok(ScanStop { at, row, end });
-            }
-            RowNote::Unknown => {
-                let end = ScanEnd::Unknown;
+            note => {
+                let end = end_at(note);
                 return Ok(ScanStop { at, row, end });
             }
         }
@@ -137,8 +158,26 @@ fn learn_at(ledger: &mut RowLedger, table: &Table, row: u32, byte: u8) -> Result
     ledger.learn(row as usize, class)
 }
 
-/// Goes along a piece from a row that holds nothing, up to the next such row, and learns what isn't
-/// noted yet. `None` where the piece ends before that, and where what is met can't be learnt.
+// Whether a leap begins behind so many bytes, at a row that holds nothing, along an edge that is
+// known.
+#[inline(always)]
+fn leads_on(ledger: &RowLedger, table: &Table, row: u32, piece: &[u8], at: usize) -> bool
+    requires table { table.now ≡ ledger.now.table }
+    requires row { row < length ledger.now.rows }
+{
+    let Some(byte) = piece.get(at) else {
+        return false;
+    };
+    let class = table.partition().class_of(*byte);
+    match ledger.note_at(row as usize, class) {
+        RowNote::Goes(edge) => !edge.is_bare(),
+        _ => false,
+    }
+}
+
+/// Goes along a piece from a row that holds nothing, over leaps that follow one another, and learns
+/// what isn't noted yet. Tells where it came last to a row that holds nothing: where it began if
+/// the piece ends in the first leap, or what is met there can't be learnt.
 pub fn scan_from(
     ledger: &mut RowLedger,
     table: &Table,
@@ -146,22 +185,28 @@ pub fn scan_from(
     piece: &[u8],
     trace: &mut Trace,
     credit: &mut Credit,
-) -> Result<Option<ScanPoint>, Memory>
+) -> Result<BarePoint, Memory>
     requires table { table.now ≡ ledger.old.table }
     requires first { (q : ℕ) × (n : ℕ)
         × (slice_get (rows_in ledger.old.rows) first ≡ Some (bare_row q n)) }
     requires marks { trace.old.marks.items ≡ [] }
     requires acts { trace.old.acts.items ≡ [] }
     ensures keeps { KeepsRows ledger.old ledger.new }
-    ensures at { IfOk result (λ o. IfSome o (λ p. p.at ≤ length piece.now)) }
-    ensures scanned { IfOk result (λ o. IfSome o (λ p. (q n : ℕ)
+    ensures at { IfOk result (λ last. last.at ≤ length piece.now) }
+    ensures scanned { IfOk result (λ last. (q n : ℕ)
         → slice_get (rows_in ledger.old.rows) first ≡ Some (bare_row q n)
-        → HasScanned ledger.old.table ledger.old.machine.nodes (rows_in ledger.new.rows) q n
-        piece.now p.at p.row trace.new.marks.items trace.new.acts.items)) }
-    ensures bare { IfOk result (λ o. IfSome o (λ p. (r : HeldRow)
-        → slice_get (rows_in ledger.new.rows) p.row ≡ Some r → r.lists ≡ [])) }
+        → (marks : List ℕ) × HasScanned ledger.old.table ledger.old.machine.nodes
+        (rows_in ledger.new.rows) q n piece.now last.at last.row marks
+        (take last.acts trace.new.acts.items)) }
+    ensures bare { IfOk result (λ last. (r : HeldRow)
+        → slice_get (rows_in ledger.new.rows) last.row ≡ Some r → r.lists ≡ []) }
 {
     let mut point = ScanPoint { at: 0, row: first };
+    let mut last = BarePoint {
+        at: 0,
+        row: first,
+        acts: 0,
+    };
     let mut left = piece.len();
     'rounds: while left > 0 {
         let stop = scan_on(ledger, table, piece, point, trace)?;
@@ -169,22 +214,33 @@ pub fn scan_from(
             at: stop.at,
             row: stop.row,
         };
+        left -= 1;
         match stop.end {
-            ScanEnd::Bare => return Ok(Some(point)),
-            ScanEnd::Nowhere => return Ok(None),
+            ScanEnd::Bare => {
+                let acts = trace.acts.len();
+                last = BarePoint {
+                    at: stop.at,
+                    row: stop.row,
+                    acts,
+                };
+                if acts > MOST_ACTS || !leads_on(ledger, table, stop.row, piece, stop.at) {
+                    return Ok(last);
+                }
+                credit.count_leap();
+            }
+            ScanEnd::Nowhere => return Ok(last),
             ScanEnd::Unknown => {
                 if !credit.spend(ledger.row_at(stop.row as usize).texts().len()) {
-                    return Ok(None);
+                    return Ok(last);
                 }
                 learn_at(ledger, table, stop.row, piece[stop.at])?;
             }
         }
-        left -= 1;
     }
-    Ok(None)
+    Ok(last)
 }
 
-/// Goes along a piece from a state without registers, where the actor is at a node, up to the next
+/// Goes along a piece from a state without registers, where the actor is at a node, up to another
 /// such state. `None` where the piece ends before that, and where it can't be learnt.
 pub fn scan(
     table: &Table,
@@ -213,12 +269,14 @@ pub fn scan(
     let Some(row) = ledger.bare_row_of(state, node)? else {
         return Ok(None);
     };
-    let Some(point) = scan_from(ledger, table, row, piece, trace, credit)? else {
+    let last = scan_from(ledger, table, row, piece, trace, credit)?;
+    if last.at == 0 {
         return Ok(None);
-    };
-    let to = ledger.row_at(point.row as usize);
+    }
+    trace.acts.truncate(last.acts);
+    let to = ledger.row_at(last.row as usize);
     Ok(Some(Leap {
-        count: point.at,
+        count: last.at,
         state: to.state(),
         node: to.node(),
     }))

@@ -4,7 +4,8 @@ use Rattle.kex_byteset.specs.Classes.{class_at, class_count}
 use Rattle.kex_sst.specs.Tables.{Transducer}
 use Rattle.kex_held_rows.specs.Books.{rows_in, IsNoteRight}
 use Rattle.kex_leaps.specs.Leaps.{HasScanned}
-use Rattle.kex_leaps.proofs.RowScans.{class_is, row_in, outs_in, keep_in, goes_at, bare_at, scan_stays}
+use Rattle.kex_leaps.specs.Leaps.{leap_acts}
+use Rattle.kex_leaps.proofs.RowScans.{class_is, row_in, outs_in, keep_in, goes_at, bare_at, more_acts, scan_stays}
 use Rattle.kex_leaps.proofs.scan.scan_on.Goals as goal
 
 pub note_at-requires-clause-number : goal.note_at-requires-clause-number
@@ -46,6 +47,7 @@ bytes-preserved-in-Stays c =
     let acts = c.bytes.trace.acts.items in
     record {
       at = c.stay-at.ensures.within;
+      acts = c.bytes.invariant.acts;
       scanned = λ q n s0.
           let s = c.bytes.invariant.scanned q n s0 in
           let stays = subst (IsNoteRight b.table b.machine.nodes rows s.to class) c.in-Stays.is (c.note_at.ensures s.to s.is) in
@@ -113,14 +115,9 @@ bytes-preserved c =
     goes_at b.table b.machine.nodes rows q n piece i c.bytes.row class marks marks' acts acts' e s c.bytes-test.true is right took.marks took.acts in
     record {
       at = omega (arith, c.bytes-test.true);
+      acts = more_acts (c.args.trace.now.acts.items) acts (leap_acts i marks e.outs) acts' c.bytes.invariant.acts took.acts;
       scanned = λ q n s0. subst (λ row. HasScanned b.table b.machine.nodes rows q n piece (i + 1) row marks' acts') (sym c.to-row.ensures) (gone q n s0);
     }
-
-pub returns-in-Plain-clause-scanned : goal.returns-in-Plain-clause-scanned
-returns-in-Plain-clause-scanned c = c.bytes.invariant.scanned
-
-pub returns-in-Unknown-clause-scanned : goal.returns-in-Unknown-clause-scanned
-returns-in-Unknown-clause-scanned c = c.bytes.invariant.scanned
 
 pub returns-clause-scanned : goal.returns-clause-scanned
 returns-clause-scanned c = c.bytes.invariant.scanned
