@@ -52,8 +52,8 @@ fn place(marks: &[usize], at: usize, item: HeldItem) -> LeapAct
     }
 }
 
-// Puts items behind acts. Most edges have none, so it isn't inlined.
-#[inline(never)]
+// Puts items behind acts.
+#[inline(always)]
 fn put_acts(
     marks: &[usize],
     at: usize,

@@ -142,8 +142,7 @@ fn perform_one(
 }
 
 /// Does acts of a piece, one after another, on a sheet, and goes by a node where that has to be
-/// handed on meanwhile. Not inlined, like `scan_on`.
-#[inline(never)]
+/// handed on meanwhile.
 pub fn perform(
     node: u32,
     piece: &[u8],

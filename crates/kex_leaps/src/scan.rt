@@ -94,9 +94,8 @@ fn end_at(note: &RowNote) -> ScanEnd
 }
 
 /// Goes along a piece by what is noted of rows, up to a row that holds nothing, or a byte at which
-/// no edge is known. Not inlined: within a long caller what the loop reads for each byte would
-/// stand in memory.
-#[inline(never)]
+/// no edge is known.
+#[inline(always)]
 pub fn scan_on(
     ledger: &RowLedger,
     table: &Table,
@@ -148,7 +147,8 @@ pub fn scan_on(
     Ok(ScanStop { at, row, end })
 }
 
-// Learns the edge of a row at a byte of a piece.
+// Learns the edge of a row at a byte of a piece. That is seldom, so it is kept out of the scan.
+#[inline(never)]
 fn learn_at(ledger: &mut RowLedger, table: &Table, row: u32, byte: u8) -> Result<(), Memory>
     requires table { table.now ≡ ledger.old.table }
     requires row { row < length ledger.old.rows }
@@ -241,7 +241,9 @@ pub fn scan_from(
 }
 
 /// Goes along a piece from a state without registers, where the actor is at a node, up to another
-/// such state. `None` where the piece ends before that, and where it can't be learnt.
+/// such state. `None` where the piece ends before that, and where it can't be learnt. Not inlined:
+/// within a long caller what the loop reads for each byte would stand in memory.
+#[inline(never)]
 pub fn scan(
     table: &Table,
     ledger: &mut RowLedger,
