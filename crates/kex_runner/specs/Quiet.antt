@@ -5,7 +5,7 @@ use Rattle.std.specs.Prelude.{length, map, slice_get}
 use Rattle.kex_byteset.specs.Classes.{class_at, class_count}
 use Rattle.kex_sst.specs.Tables.{Transducer}
 use Rattle.kex_script.specs.declared.script.Entry.{Entry}
-use Rattle.kex_script.specs.Scripts.{Sheet, entry_at}
+use Rattle.kex_script.specs.Scripts.{Sheet, IsScriptOf, entry_at}
 use Rattle.kex_runner.specs.declared.quiet.Quiet.{Quiet}
 use Rattle.kex_runner.specs.declared.quiet.Guide.{Guide}
 use Rattle.kex_runner.specs.declared.history.NotedUpdate.{NotedUpdate}
@@ -28,8 +28,10 @@ abbrev pub AreQuiet : Sheet → ℕ → ℕ → List Quiet → Type 0
 AreQuiet s width count qs = (k : ℕ) (q : Quiet) → slice_get qs k ≡ Some q
     → IsQuietIf (entry_at s (k / width) (k % width)) width count q
 
--- the rows are as wide as a power of two, and have a place for each class of a table
+-- the script is a table's, and the rows are as wide as a power of two, and have a place for each
+-- class of the table
 pub record IsGuide (t : Transducer) (g : Guide) : Type 0 where
+  pub script : IsScriptOf g.script t
   pub width : g.width ≡ 2 ^ g.shift
   pub few : g.shift ≤ 8
   pub wide : class_count t.classes ≤ g.width

@@ -28,6 +28,7 @@ mod place;
 mod quiet;
 mod registers;
 pub mod runner;
+pub mod shared_guide;
 mod spelling;
 mod ways;
 

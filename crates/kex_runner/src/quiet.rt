@@ -1,7 +1,6 @@
 // Quiet updates: those that pass nothing on and lead to a state with registers.
 
 ghost use Rattle.std.specs.Prelude.{◌≡◌, ◌<◌, ◌≤◌, ◌^◌, ◌/◌, IfOk, length};
-ghost use Rattle.kex_script.specs.Scripts.{IsScriptOf};
 ghost use Rattle.kex_runner.specs.Quiet.{AreQuiet, IsGuide, IsQuietIf};
 
 use kex_code::memory::Memory;
@@ -100,8 +99,7 @@ fn states_with_registers(states: &[State]) -> usize {
 impl Guide {
     /// The script of a table, with its quiet updates.
     pub fn new(alloc: Global, table: &Table) -> Result<Guide, Memory>
-        ensures script { IfOk result (λ g. IsScriptOf g.script table.now) }
-        ensures guide { IfOk result (λ g. IsGuide table.now g) }
+        ensures { IfOk result (λ g. IsGuide table.now g) }
     {
         let script = Script::new(alloc, table)?;
         let shift = shift_of(table.partition().classes());

@@ -16,7 +16,7 @@ ghost use Rattle.kex_runner.specs.Ways.{AreKnown};
 
 use crate::answers::{Ended, Fed, answer_of};
 use crate::place::{TablePlace, Taken};
-use crate::quiet::Guide;
+use crate::shared_guide::SharedGuide;
 use crate::spelling::spell;
 use kex_code::code::Code;
 use kex_code::memory::Memory;
@@ -33,7 +33,7 @@ use std::sync::ledger::Ledger;
 #[derive(Drop)]
 pub struct Runner<'t> {
     table: &'t Table,
-    guide: Guide,
+    guide: SharedGuide,
     place: TablePlace,
     pending: Vec<ByteWord>,
     read: u64,
@@ -99,8 +99,19 @@ impl<'t> Runner<'t> {
         ensures stands { IfOk result (λ r. IsRunOf r [] []) }
         ensures usable { IfOk result (λ r. (r.usable ≡ true) × (r.ended ≡ false) × (r.read ≡ 0)) }
     {
-        let guide = Guide::new(alloc, table)?;
-        let (place, pending) = TablePlace::new(alloc, table, &guide.script)?;
+        let guide = SharedGuide::new(alloc, table)?;
+        Runner::over(alloc, table, guide)
+    }
+
+    /// The same, by a guide of the table that other runners may have too.
+    pub fn over(alloc: Global, table: &'t Table, guide: SharedGuide) -> Result<Runner<'t>, Memory>
+        requires guide { IsGuide table.now guide }
+        ensures table { IfOk result (λ r. r.table ≡ table.now) }
+        ensures stands { IfOk result (λ r. IsRunOf r [] []) }
+        ensures usable { IfOk result (λ r. (r.usable ≡ true) × (r.ended ≡ false) × (r.read ≡ 0)) }
+    {
+        let script = &guide.get().script;
+        let (place, pending) = TablePlace::new(alloc, table, script)?;
         Ok(Runner {
             table,
             guide,
@@ -126,8 +137,9 @@ impl<'t> Runner<'t> {
         ensures usable { IsTrue self.new.usable ↔ IsOk result }
     {
         self.usable = false;
+        let script = &self.guide.get().script;
         self.place
-            .begin_again(self.table, &self.guide.script, &mut self.pending)?;
+            .begin_again(self.table, script, &mut self.pending)?;
         self.read = 0;
         self.dead = false;
         self.ended = false;
@@ -160,17 +172,17 @@ impl<'t> Runner<'t> {
         ensures usable { IsTrue self.new.usable ↔ IsOk result }
     {
         self.usable = false;
+        let script = &self.guide.get().script;
         if self.dead {
-            spell(self.guide.script.words(), &self.pending, code)?;
+            spell(script.words(), &self.pending, code)?;
             self.pending.clear();
             self.usable = true;
             return Ok(Fed::Dead);
         }
-        let script = &self.guide.script;
         let count = self
             .place
             .follow(self.table, script, piece, &mut self.pending, steps)?;
-        spell(self.guide.script.words(), &self.pending, code)?;
+        spell(script.words(), &self.pending, code)?;
         self.pending.clear();
         self.read += count as u64;
         self.dead = count < piece.len();
@@ -210,7 +222,7 @@ impl<'t> Runner<'t> {
         }
         let Taken { taken, good } = self
             .place
-            .follow_held(self.table, &self.guide, piece, pieces)?;
+            .follow_held(self.table, self.guide.get(), piece, pieces)?;
         self.read += good as u64;
         self.dead = good < taken;
         self.usable = true;
@@ -235,7 +247,8 @@ impl<'t> Runner<'t> {
     {
         self.ended = true;
         self.usable = false;
-        spell(self.guide.script.words(), &self.pending, code)?;
+        let script = &self.guide.get().script;
+        spell(script.words(), &self.pending, code)?;
         self.pending.clear();
         if self.dead {
             self.usable = true;
@@ -248,9 +261,7 @@ impl<'t> Runner<'t> {
                 Ok(Ended::Cut)
             }
             Some(way) => {
-                self.place
-                    .registers
-                    .spell(&self.guide.script, way.as_slice(), code)?;
+                self.place.registers.spell(script, way.as_slice(), code)?;
                 self.usable = true;
                 Ok(Ended::Parsed)
             }
@@ -288,7 +299,7 @@ impl<'t> Runner<'t> {
     pub fn words(&self) -> &[Parts]
         ensures { result.now ≡ self.now.words }
     {
-        self.guide.script.words()
+        self.guide.get().script.words()
     }
 
     /// The number of the state that it is in.

@@ -56,11 +56,10 @@ impl<'t> Runner<'t> {
         ensures usable { IsTrue self.new.usable ↔ IsOk result }
     {
         self.usable = false;
-        spell(self.guide.script.words(), &self.pending, code)?;
+        let script = &self.guide.get().script;
+        spell(script.words(), &self.pending, code)?;
         self.pending.clear();
-        self.place
-            .registers
-            .take_series(&self.guide.script, series, code)?;
+        self.place.registers.take_series(script, series, code)?;
         self.place.state = target;
         self.read += bytes;
         self.usable = true;
