@@ -14,9 +14,9 @@ use kex_code::code::Code;
 use kex_code::memory::Memory;
 use kex_machine::Trimmed;
 use kex_pipe::worker::Worker;
-use kex_sst::table::Table;
 use kex_stage::follower::Follower;
 use kex_stage::plan::{Plan, Telling};
+use kex_stage::route::Route;
 use kex_stage::speak::speak;
 use std::alloc::Global;
 use std::marker::Model;
@@ -25,7 +25,7 @@ use std::marker::Model;
 #[derive(Drop)]
 pub struct TableBasis<'p> {
     machine: &'p Trimmed,
-    table: &'p Table,
+    route: Route<'p>,
     telling: Telling,
 }
 
@@ -38,12 +38,12 @@ impl<'p> Model for TableBasis<'p> {
 
     ghost view = { λ b. record {
       machine = b.machine.now;
-      table = b.table.now;
+      table = b.route;
       telling = b.telling;
     } };
 
     ghost invariant = { λ b. IsTrimmed b.machine.now
-        × IsTableAs b.telling b.machine.now b.table.now };
+        × IsTableAs b.telling b.machine.now b.route };
 }
 
 /// Works by a table: bytes come in pieces, and what the table passes on goes out at once.
@@ -78,11 +78,11 @@ impl<'p> TableBasis<'p> {
         ensures { MatchOption result (plan.now.table ≡ None)
             (λ b. teller_by b ≡ teller_of plan.now) }
     {
-        match plan.shortest_table() {
+        match plan.route() {
             None => None,
-            Some(table) => Some(TableBasis {
+            Some(route) => Some(TableBasis {
                 machine: plan.machine(),
-                table,
+                route,
                 telling: plan.telling(),
             }),
         }
@@ -94,7 +94,7 @@ impl<'p> TableBasis<'p> {
     {
         TableBasis {
             machine: self.machine,
-            table: self.table,
+            route: self.route.twin(),
             telling: self.telling,
         }
     }
@@ -146,7 +146,7 @@ impl<'p> Worker for TableWorker<'p> {
     ghost answers = { λ m. answering (teller_by m) };
 
     fn start(alloc: Global, basis: TableBasis<'p>) -> Result<TableWorker<'p>, Memory> {
-        let follower = Follower::new(alloc, basis.table, basis.machine)?;
+        let follower = Follower::new(alloc, &basis.route, basis.machine)?;
         let actor = Actor::new(alloc, basis.machine)?;
         Ok(TableWorker {
             basis,

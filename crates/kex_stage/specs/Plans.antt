@@ -1,5 +1,5 @@
 -- A stage as it is planned.
-use Rattle.std.specs.Prelude.{◌≡◌, ℕ, List, Option, Some, None, map}
+use Rattle.std.specs.Prelude.{◌≡◌, ℕ, List, Option, Some, None, IfSome, map}
 use Rattle.kex_code.specs.Codes.{IsAmong}
 use Rattle.kex_code.specs.declared.symbol.Symbol.{Symbol}
 use Rattle.kex_model.specs.Survivors.{Agreed}
@@ -8,6 +8,8 @@ use Rattle.kex_machine.specs.Answers.{SaysTold}
 use Rattle.kex_machine.specs.Covering.{Best}
 use Rattle.kex_sst.specs.Tables.{Transducer}
 use Rattle.kex_sst.specs.Machines.{IsBestTableOf, IsTableBy, IsTableOf}
+use Rattle.kex_runner.specs.declared.quiet.Guide.{Guide}
+use Rattle.kex_runner.specs.Quiet.{IsGuide}
 use Rattle.kex_stage.specs.declared.plan.Telling.{Telling}
 use Rattle.kex_stage.specs.declared.plan.Telling.TheVariants as telling
 
@@ -47,6 +49,15 @@ ToldBy telling.Best g = Best g
 -- and this text is said
 abbrev pub SaysAs : Telling → Graph → List ℕ → List ℕ → Type 0
 SaysAs k g w text = SaysTold g (ToldBy k g) w text
+
+-- the table by which stages go: the shorter one, if there is one
+abbrev pub shortest : Option Transducer → Option Transducer → Option Transducer
+shortest None o = o
+shortest (Some t) o = Some t
+
+-- the guide is the table's, if there are both
+abbrev pub IsGuideIf : Option Transducer → Option Guide → Type 0
+IsGuideIf o guide = IfSome guide (λ g. IfSome o (λ t. IsGuide t g))
 
 -- the table is the machine's, if there is one
 abbrev pub IsTableIf : Graph → Option Transducer → Type 0

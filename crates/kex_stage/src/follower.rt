@@ -3,13 +3,13 @@
 ghost use Rattle.std.specs.Prelude.{◌≡◌, [], false, IfOk, IsTrue};
 ghost use Rattle.kex_runner.specs.Running.{IsRunOf};
 
+use crate::route::Route;
 use kex_code::memory::Memory;
 use kex_machine::Trimmed;
 use kex_moves::moves::Moves;
 use kex_moves::phrases::Phrases;
 use kex_runner::runner::Runner;
 use kex_script::piece::ByteWord;
-use kex_sst::table::Table;
 use std::alloc::Global;
 
 /// A runner of a table; what was learnt of the table and the actor, by which both go on at once
@@ -31,18 +31,18 @@ impl<'p> Follower<'p> {
     /// At the start of a table, where nothing is learnt.
     pub fn new(
         alloc: Global,
-        table: &'p Table,
+        route: &Route<'p>,
         machine: &'p Trimmed,
     ) -> Result<Follower<'p>, Memory>
-        ensures tables { IfOk result (λ f. (f.runner.table ≡ table.now)
-            × (f.moves.table ≡ table.now)) }
+        ensures tables { IfOk result (λ f. (f.runner.table ≡ route.now)
+            × (f.moves.table ≡ route.now)) }
         ensures machine { IfOk result (λ f. f.moves.machine ≡ machine.now) }
         ensures stands { IfOk result (λ f. IsRunOf f.runner [] []) }
         ensures usable { IfOk result (λ f. (IsTrue f.runner.usable) × (f.runner.ended ≡ false)
             × (f.runner.read ≡ 0)) }
     {
-        let runner = Runner::new(alloc, table)?;
-        let moves = Moves::new(alloc, table, machine)?;
+        let runner = route.runner(alloc)?;
+        let moves = Moves::new(alloc, route.table(), machine)?;
         let phrases = Phrases::new(alloc, runner.words(), machine)?;
         Ok(Follower {
             runner,

@@ -11,6 +11,7 @@ pub mod laws;
 pub mod oracle;
 mod paths;
 pub mod plan;
+pub mod route;
 pub mod speak;
 pub mod stage;
 mod strides;

@@ -35,9 +35,9 @@ impl<'p> Oracle<'p> {
         ensures ready { IfOk result (λ o. IsReady o × (read_of o ≡ 0)) }
     {
         let machine = plan.machine();
-        match plan.shortest_table() {
-            Some(table) => {
-                let follower = Follower::new(alloc, table, machine)?;
+        match plan.route() {
+            Some(route) => {
+                let follower = Follower::new(alloc, &route, machine)?;
                 Ok(Oracle::Table(follower))
             }
             None => {

@@ -1,15 +1,18 @@
 // What a stage works by.
 
-ghost use Rattle.std.specs.Prelude.{◌≡◌, Some, None, MatchOption, IfOk};
-ghost use Rattle.kex_machine.specs.Nodes.{IsTrimmed};
+ghost use Rattle.std.specs.Prelude.{◌≡◌, Some, None, MatchOption, IfOk, IfSome};
+ghost use Rattle.kex_machine.specs.Nodes.{Graph, IsTrimmed};
 ghost use Rattle.kex_sst.specs.Machines.{IsBestTableOf};
-ghost use Rattle.kex_stage.specs.Plans.{IsTableAs, IsTableFor, IsTableIf};
+ghost use Rattle.kex_stage.specs.Plans.{IsGuideIf, IsTableAs, IsTableFor, IsTableIf, shortest};
+ghost use Rattle.kex_stage.specs.declared.plan.Telling.{Telling};
 ghost use Rattle.kex_stage.specs.declared.plan.Telling.TheVariants as telling;
 
 use crate::common::Common;
+use crate::route::Route;
 use kex_code::memory::Memory;
 use kex_constants::{LONGEST, clear_table};
 use kex_machine::Trimmed;
+use kex_runner::shared_guide::SharedGuide;
 use kex_sst::table::Table;
 use std::alloc::Global;
 use std::marker::Model;
@@ -24,25 +27,28 @@ pub enum Telling {
 }
 
 /// A stage's machine, its table, if it has one, and what the stage tells. Beside that table there
-/// may be a shorter one of the machine, by which stages go. Plans may have all of it in common.
+/// may be a shorter one of the machine, by which stages go, and the guide of the table by which
+/// they go. Plans may have all of it in common.
 #[derive(Drop)]
 pub struct Plan {
     machine: Common<Trimmed>,
     table: Option<Common<Table>>,
     shorter: Option<Common<Table>>,
+    guide: Option<SharedGuide>,
     telling: Telling,
 }
 
 impl Model for Plan {
     ghost use Rattle.std.specs.Prelude.{IfSome};
-    ghost use Rattle.kex_stage.specs.Plans.{IsTableAs, IsTableFor, Planned};
+    ghost use Rattle.kex_stage.specs.Plans.{IsGuideIf, IsTableAs, IsTableFor, Planned, shortest};
 
     ghost Value = { Planned };
 
     ghost view = { λ p. record { machine = p.machine; table = p.table; telling = p.telling } };
 
     ghost invariant = { λ p. IsTableFor p.telling p.machine p.table
-        × IfSome p.shorter (λ t. IsTableAs p.telling p.machine t) };
+        × IfSome p.shorter (λ t. IsTableAs p.telling p.machine t)
+        × IsGuideIf (shortest p.shorter p.table) p.guide };
 }
 
 // One more owner of a table, if there is one.
@@ -52,6 +58,30 @@ fn again_if(table: &Option<Common<Table>>) -> Result<Option<Common<Table>>, Memo
     match table {
         None => Ok(None),
         Some(table) => Ok(Some(table.again()?)),
+    }
+}
+
+// One more owner of a guide, if there is one.
+fn guide_again_if(guide: &Option<SharedGuide>) -> Result<Option<SharedGuide>, Memory>
+    ensures { IfOk result (λ o. o ≡ guide.now) }
+{
+    match guide {
+        None => Ok(None),
+        Some(guide) => Ok(Some(guide.again()?)),
+    }
+}
+
+// The shorter table, if there is one, and else the table.
+fn shortest<'p>(
+    shorter: &'p Option<Common<Table>>,
+    table: &'p Option<Common<Table>>,
+) -> Option<&'p Table>
+    ensures { MatchOption result (shortest shorter.now table.now ≡ None)
+        (λ t. shortest shorter.now table.now ≡ Some t.now) }
+{
+    match shorter {
+        None => table.as_ref().map(Common::get),
+        Some(table) => Some(table.get()),
     }
 }
 
@@ -66,6 +96,35 @@ fn has_registers(table: &Table) -> bool {
     false
 }
 
+// A table without constant registers, if there is a table with registers.
+fn shorter_of(alloc: Global, table: &Option<Common<Table>>) -> Result<Option<Common<Table>>, Memory>
+    ensures { IfOk result (λ o. (k : Telling) (g : Graph) → IsTableFor k g table.now
+        → IfSome o (λ t. IsTableAs k g t)) }
+{
+    match table {
+        Some(table) if has_registers(table.get()) => {
+            let cleared = clear_table(alloc, table.get(), LONGEST)?;
+            let shorter = Common::new(alloc, cleared)?;
+            Ok(Some(shorter))
+        }
+        _ => Ok(None),
+    }
+}
+
+// The guide of the table by which stages go, if there is one.
+fn guide_of(
+    alloc: Global,
+    shorter: &Option<Common<Table>>,
+    table: &Option<Common<Table>>,
+) -> Result<Option<SharedGuide>, Memory>
+    ensures { IfOk result (λ o. IsGuideIf (shortest shorter.now table.now) o) }
+{
+    match shortest(shorter, table) {
+        None => Ok(None),
+        Some(table) => Ok(Some(SharedGuide::new(alloc, table)?)),
+    }
+}
+
 impl Plan {
     /// The plan of a machine, with its table or without one, which tells what is agreed.
     pub fn new(machine: Trimmed, table: Option<Table>) -> Plan
@@ -77,6 +136,7 @@ impl Plan {
             machine: Common::alone(machine),
             table: table.map(Common::alone),
             shorter: None,
+            guide: None,
             telling: Telling::Agreed,
         }
     }
@@ -91,6 +151,7 @@ impl Plan {
             machine: Common::alone(machine),
             table: Some(Common::alone(table)),
             shorter: None,
+            guide: None,
             telling: Telling::Best,
         }
     }
@@ -104,6 +165,7 @@ impl Plan {
             machine,
             table,
             shorter: None,
+            guide: None,
             telling,
         }
     }
@@ -117,6 +179,7 @@ impl Plan {
             machine: self.machine.again()?,
             table: again_if(&self.table)?,
             shorter: again_if(&self.shorter)?,
+            guide: guide_again_if(&self.guide)?,
             telling: self.telling,
         })
     }
@@ -148,7 +211,7 @@ impl Plan {
     }
 
     /// The same plan, of which stages go by a table without constant registers, if it has a table
-    /// with registers.
+    /// with registers. The guide of the table by which they go is made.
     pub fn shorten(self, alloc: Global) -> Result<Plan, Memory>
         ensures { IfOk result (λ p. p ≡ self) }
     {
@@ -158,30 +221,26 @@ impl Plan {
             telling,
             ..
         } = self;
-        let shorter = match &table {
-            Some(table) if has_registers(table.get()) => {
-                let cleared = clear_table(alloc, table.get(), LONGEST)?;
-                Some(Common::new(alloc, cleared)?)
-            }
-            _ => None,
-        };
+        let shorter = shorter_of(alloc, &table)?;
+        let guide = guide_of(alloc, &shorter, &table)?;
         Ok(Plan {
             machine,
             table,
             shorter,
+            guide,
             telling,
         })
     }
 
-    /// The table by which stages go. There is one exactly where the plan has a table.
-    pub fn shortest_table(&self) -> Option<&Table>
+    /// By what stages go that have a table. There is one exactly where the plan has a table.
+    pub fn route(&self) -> Option<Route<'_>>
         ensures { MatchOption result
             ((self.now.table ≡ None) × (self.now.telling ≡ telling.Agreed))
-            (λ t. IsTableAs self.now.telling self.now.machine t.now) }
+            (λ t. IsTableAs self.now.telling self.now.machine t) }
     {
-        match &self.shorter {
-            None => self.table.as_ref().map(Common::get),
-            Some(table) => Some(table.get()),
+        match shortest(&self.shorter, &self.table) {
+            None => None,
+            Some(table) => Some(Route::new(table, self.guide.as_ref())),
         }
     }
 }

@@ -39,9 +39,11 @@ fn holds_text(table: &Table) -> bool {
 // Whether each of the stages with these plans mostly holds text.
 fn all_hold_text(plans: &[Plan]) -> bool {
     for plan in plans {
-        match plan.shortest_table() {
-            Some(table) if holds_text(table) => {}
-            _ => return false,
+        let Some(route) = plan.route() else {
+            return false;
+        };
+        if !holds_text(route.table()) {
+            return false;
         }
     }
     true
@@ -51,8 +53,8 @@ fn all_hold_text(plans: &[Plan]) -> bool {
 fn states_of(plans: &[Plan]) -> usize {
     let mut states: usize = 0;
     for plan in plans {
-        if let Some(table) = plan.shortest_table() {
-            states = states.saturating_add(table.states().len());
+        if let Some(route) = plan.route() {
+            states = states.saturating_add(route.table().states().len());
         }
     }
     states
