@@ -10,3 +10,4 @@ mod Trails
 mod AddedRows
 pub mod SheetRuns
 mod LeapRuns
+mod BareStates

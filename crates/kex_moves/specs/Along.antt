@@ -6,6 +6,7 @@ use Rattle.kex_action.specs.declared.sheet.Sheet.{Sheet}
 use Rattle.kex_action.specs.Sheets.{state_with}
 use Rattle.kex_action.specs.Actors.{Position, HasPerformed, BeginsRun, WentOn}
 use Rattle.kex_sst.specs.Tables.{Transducer}
+use Rattle.kex_sst.specs.Laws.{IsPassOf}
 use Rattle.kex_sst.specs.Passes.{Pass, passes, passes_if}
 use Rattle.kex_held.specs.Walks.{TakesCode}
 use Rattle.kex_moves.specs.Known.{Known, HasRowFor}
@@ -13,6 +14,10 @@ use Rattle.kex_moves.specs.Known.{Known, HasRowFor}
 -- at a state without registers
 abbrev pub bare : ℕ → List Symbol → Pass
 bare q c = record { state = q; code = c; registers = [] }
+
+-- q is a state of the table, and has no registers
+abbrev pub IsBareState : Transducer → ℕ → Type 0
+IsBareState t q = IsPassOf t (bare q [])
 
 -- along the bytes the table goes from q to r and says a code, and where that can be taken, on the
 -- way to anything, the actor has performed it

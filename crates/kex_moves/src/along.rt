@@ -11,7 +11,8 @@ ghost use Rattle.kex_moves.specs.declared.edge.EdgeKind.{EdgeKind};
 ghost use Rattle.kex_moves.specs.declared.edges.Pair.{Pair};
 ghost use Rattle.kex_moves.specs.Runs.{IsEdgeAt, StopsAt, run_of};
 ghost use Rattle.kex_moves.specs.Known.{rows_of, IsEdge, IsPairRow, HasRowFor, IsKnown, KnownGrows};
-ghost use Rattle.kex_moves.specs.Along.{ReachedOn, GoesAlong, with_sheet, written_with};
+ghost use Rattle.kex_moves.specs.Along.{ReachedOn, GoesAlong, IsBareState};
+ghost use Rattle.kex_moves.specs.Along.{with_sheet, written_with};
 
 use crate::edge::{Edge, EdgeKind};
 use crate::edges::Edges;
@@ -567,6 +568,8 @@ pub fn run_at(
     ensures within { IfOk result (λ ran. ran.count ≤ length piece.now) }
     ensures goes { IfOk result (λ ran. GoesAlong table.now actor.old actor.new state ran.state
         (take ran.count piece.now) out.old.items out.new.items) }
+    ensures bare { IfOk result (λ ran. IsBareState table.now state
+        → IsBareState table.now ran.state) }
     ensures none { OnOk result (IsBlank sheet.new) }
     ensures room { OnOk result (IsAsLong sheet.old sheet.new) }
     ensures rows { (leaps.new.table ≡ leaps.old.table)

@@ -1,7 +1,7 @@
 // The hot loop of a stage over a table.
 
 ghost use Rattle.std.specs.Prelude.{◌≡◌, ◌≤◌, ◌^◌, IsTrue, IfOk, OnOk, length, take};
-ghost use Rattle.kex_moves.specs.Along.{RunsOn};
+ghost use Rattle.kex_moves.specs.Along.{RunsOn, IsBareState};
 
 pub use crate::along::Ran;
 use crate::along::{ROOM, run_at};
@@ -108,6 +108,8 @@ impl<'p> Moves<'p> {
         ensures within { IfOk result (λ ran. ran.count ≤ length piece.now) }
         ensures runs { IfOk result (λ ran. RunsOn self.old.table actor.old actor.new state ran.state
             (take ran.count piece.now) out.old.items out.new.items) }
+        ensures bare { IfOk result (λ ran. IsBareState self.old.table state
+            → IsBareState self.old.table ran.state) }
         ensures same { self.new ≡ self.old }
         ensures machine { actor.new.machine ≡ actor.old.machine }
         ensures usable { OnOk result (IsTrue actor.new.usable) }

@@ -302,9 +302,10 @@ impl<'t> Runner<'t> {
         self.guide.get().script.words()
     }
 
-    /// The number of the state that it is in.
+    /// The number of the state that it is in. The runner holds as many registers as that has.
     pub fn state(&self) -> u32
-        ensures { result ≡ self.now.state }
+        ensures same { result ≡ self.now.state }
+        ensures place { IsTablePlace self.now.table result self.now.registers }
     {
         self.place.state
     }

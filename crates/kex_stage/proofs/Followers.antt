@@ -4,10 +4,11 @@ use Rattle.std.proofs.lemmas.List.{length-take-le, take_rest}
 use Rattle.kex_code.specs.declared.symbol.Symbol.{Symbol}
 use Rattle.kex_machine.specs.Answers.{IsViableFor}
 use Rattle.kex_action.specs.Actors.{Position, HasPerformed, BeginsRun, TookAll}
+use Rattle.kex_sst.specs.Tables.{Transducer}
 use Rattle.kex_sst.specs.Passes.{passes}
-use Rattle.kex_moves.specs.Along.{RunsOn, bare}
+use Rattle.kex_moves.specs.Along.{RunsOn, IsBareState, bare}
 use Rattle.kex_runner.specs.Running.{IsRunOf}
-use Rattle.kex_runner.specs.Following.{pass_at}
+use Rattle.kex_runner.specs.Following.{IsTablePlace, pass_at}
 use Rattle.kex_stage.specs.declared.follower.Follower.{Follower}
 use Rattle.kex_stage.specs.declared.oracle.Oracle.{Oracle}
 use Rattle.kex_stage.specs.declared.oracle.Oracle.TheVariants.{Table}
@@ -192,3 +193,13 @@ taken_both piece at count le =
 pub none_held : (b : Bool) (registers : List (List Symbol)) → b ≡ false → (0 < length registers → b ≡ true) → registers ≡ []
 none_held b [] e h = refl
 none_held b (x ∷ xs) e h = let bad : false ≡ true = sym e ∙ h (omega arith) in absurd (cc)
+
+-- a place of a table without registers is a state that has none
+pub bare_place : (t : Transducer) (q : ℕ) (registers : List (List Symbol)) → registers ≡ [] → IsTablePlace t q registers → IsBareState t q
+bare_place t q registers none h =
+    let p = subst (λ rs. IsTablePlace t q rs) none h in
+    record { row = p.row; at = p.at; count = p.count }
+
+-- and the other way
+pub place_bare : (t : Transducer) (q : ℕ) → IsBareState t q → IsTablePlace t q []
+place_bare t q p = record { row = p.row; at = p.at; count = p.count }

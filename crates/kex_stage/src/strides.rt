@@ -139,9 +139,6 @@ impl<'p> Follower<'p> {
         }
         let state = self.runner.state();
         let ran = self.moves.run(state, actor, piece, out)?;
-        if !self.runner.is_bare(ran.state) {
-            return Err(Memory);
-        }
         self.runner.jump(ran.state, ran.count as u64);
         Ok(ran.count)
     }
