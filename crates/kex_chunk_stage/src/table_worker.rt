@@ -17,7 +17,7 @@ use kex_pipe::worker::Worker;
 use kex_stage::follower::Follower;
 use kex_stage::plan::{Plan, Telling};
 use kex_stage::route::Route;
-use kex_stage::speak::speak;
+use kex_stage::speak::{StageFault, speak};
 use std::alloc::Global;
 use std::marker::Model;
 
@@ -157,14 +157,20 @@ impl<'p> Worker for TableWorker<'p> {
     }
 
     fn go_on(&mut self, piece: &[u8], out: &mut Vec<u8>) -> Result<Option<u64>, Memory> {
-        let count = self.follower.go_on(&mut self.actor, piece, out)?;
-        Ok(refused_at(count < piece.len(), self.follower.runner.read()))
+        match self.follower.go_on(&mut self.actor, piece, out) {
+            Ok(count) => Ok(refused_at(count < piece.len(), self.follower.runner.read())),
+            Err(StageFault::Refused) => Ok(Some(self.follower.runner.read())),
+            Err(StageFault::Memory) => Err(Memory),
+        }
     }
 
     fn finish(&mut self, out: &mut Vec<u8>) -> Result<bool, Memory> {
         self.code.clear();
         let parsed = self.follower.end(&mut self.code)?;
-        speak(&mut self.actor, self.code.as_slice(), out)?;
-        Ok(parsed)
+        match speak(&mut self.actor, self.code.as_slice(), out) {
+            Ok(()) => Ok(parsed),
+            Err(StageFault::Refused) => Ok(false),
+            Err(StageFault::Memory) => Err(Memory),
+        }
     }
 }

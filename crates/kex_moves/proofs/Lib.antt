@@ -11,3 +11,4 @@ mod AddedRows
 pub mod SheetRuns
 mod LeapRuns
 mod BareStates
+pub mod StoppedCodes

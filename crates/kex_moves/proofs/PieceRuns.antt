@@ -1,5 +1,5 @@
 -- What pieces make an actor do, edge by edge and symbol by symbol.
-use Rattle.std.proofs.Common.{◌≡◌, ℕ, zero, suc, ◌<◌, ◌+◌, true, cond, IsTrue, List, [], ◌∷◌, ◌++◌, Some, map, length, get_or, take, drop, reverse, refl, sym, ap, ap₂, subst, ◌∙◌, arith, append_assoc, append-nil}
+use Rattle.std.proofs.Common.{◌≡◌, ℕ, zero, suc, ◌<◌, ◌+◌, Bool, true, false, cond, IsTrue, List, [], ◌∷◌, ◌++◌, Some, map, length, get_or, take, drop, reverse, refl, sym, ap, ap₂, subst, ◌∙◌, arith, append_assoc, append-nil}
 use Rattle.std.specs.Prelude.{slice_get}
 use Rattle.std.proofs.lemmas.List.{length-take-le}
 use Rattle.kex_code.specs.declared.symbol.Symbol.{Symbol}
@@ -8,7 +8,7 @@ use Rattle.kex_machine.specs.declared.MNode.{MNode}
 use Rattle.kex_machine.specs.Nodes.{Graph}
 use Rattle.kex_action.specs.declared.sheet.Sheet.{Sheet}
 use Rattle.kex_action.specs.Holdings.{LeadsByCode, Does, with_bytes, state_of}
-use Rattle.kex_action.specs.Actors.{Position, BeginsRun, WentOn, TookAll}
+use Rattle.kex_action.specs.Actors.{Position, HasPerformed, BeginsRun, WentOn, TookAll}
 use Rattle.kex_action.specs.Actions.{after_actions}
 use Rattle.kex_action.specs.Sheets.{with_marked_bytes, AreMarks, IsSheet, IsBlank, state_with}
 use Rattle.kex_action.proofs.NodeSteps.{leads_on, stays}
@@ -29,7 +29,7 @@ use Rattle.kex_held.specs.Walks.{TakesCode, code_with_byte}
 use Rattle.kex_moves.specs.Known.{Known, IsPairRow, IsRight, IsKnown, makes}
 use Rattle.kex_moves.specs.Along.{with_sheet, written_with}
 use Rattle.kex_moves.specs.Trails.{IsTrail}
-use Rattle.kex_moves.specs.Speech.{says_word, words_table, PerformsSaid, SaidWith, SaidOn}
+use Rattle.kex_moves.specs.Speech.{says_word, words_table, PerformsSaid, RefusesCode, SaidWith, SaidOn}
 use Rattle.kex_moves.proofs.KnownEdges.{known_if, pair_known}
 use Rattle.kex_moves.proofs.PlacedTexts.{adding_more, adding_none}
 use Rattle.kex_moves.proofs.EdgeRuns.{right_at, went_none, went_more, takes_run}
@@ -144,6 +144,26 @@ performs_more old mid new c d x y z machine p q = λ given code w h run.
 
 pub performs_took : (old new : Position) (c : List Symbol) (x y : List ℕ) → TookAll old new c x y → PerformsSaid old new c x y
 performs_took old new c x y t = λ given code w h run. t.went
+
+-- what was given begins a run's code: it is all that was performed
+given_is : (a : Position) (given c : List Symbol) (w : List ℕ) → HasPerformed a given c w → BeginsRun a.machine given → given ≡ c
+given_is a given c w h run = by a.refused refl
+  where
+    by : (r : Bool) → a.refused ≡ r → given ≡ c
+    by false e = h.all e
+    by true e = absurd (h.none e run)
+
+-- what is refused later is refused, and so is all that has it
+pub refuses_later : (old mid : Position) (front word rest : List Symbol) (x y : List ℕ) → mid.machine ≡ old.machine → PerformsSaid old mid front x y → RefusesCode mid word → RefusesCode old (front ++ (word ++ rest))
+refuses_later old mid front word rest x y machine p r = λ given c w h run.
+    let g = old.machine in
+    let all = given ++ (front ++ (word ++ rest)) in
+    let behind : all ≡ (given ++ front) ++ (word ++ rest) = sym (append_assoc given front (word ++ rest)) in
+    let one = begins_front g (given ++ front) all run (word ++ rest, behind) in
+    let two = begins_front g ((given ++ front) ++ word) all run (rest, behind ∙ sym (append_assoc (given ++ front) word rest)) in
+    let same = given_is old given c w h (begins_front g given all run (front ++ (word ++ rest), refl)) in
+    let went = p given c w h (subst (λ l. BeginsRun g (l ++ front)) same one) in
+    r (given ++ front) (c ++ front) (w ++ went.more) (went.performed given c w h) (subst (λ m. BeginsRun m ((given ++ front) ++ word)) (sym machine) two)
 
 -- where it can be taken from here, on the way to anything
 performs_taken : (old new : Position) (c : List Symbol) (x y : List ℕ) → ((d : List Symbol) → TakesCode old.machine.nodes old.at (c ++ d) → WentOn old new c c x y) → PerformsSaid old new c x y

@@ -28,6 +28,11 @@ words_table words = record {
   states = record { registers = 0; accepting = None; go = map says_word words } ∷ [];
 }
 
+-- what was given begins no run's code with these symbols behind it
+abbrev pub RefusesCode : Position → List Symbol → Type 0
+RefusesCode a symbols = (given c : List Symbol) (written : List ℕ) → HasPerformed a given c written
+    → BeginsRun a.machine (given ++ symbols) → ⊥
+
 -- if all that was performed and what is said begin a run's code, the actor has performed what is
 -- said too
 abbrev pub PerformsSaid : Position → Position → List Symbol → List ℕ → List ℕ → Type 0

@@ -1,8 +1,8 @@
 // What the words of a list do at the nodes of a machine.
 
-ghost use Rattle.std.specs.Prelude.{◌≡◌, ◌≤◌, ◌^◌, IsTrue, IfOk, OnOk};
+ghost use Rattle.std.specs.Prelude.{◌≡◌, ◌≤◌, ◌^◌, false, IsTrue, IfOk, OnOk};
 ghost use Rattle.kex_script.specs.Pieces.{code_over};
-ghost use Rattle.kex_moves.specs.Speech.{PerformsSaid};
+ghost use Rattle.kex_moves.specs.Speech.{PerformsSaid, RefusesCode};
 
 use crate::along::ROOM;
 use crate::edges::{By, Edges};
@@ -82,17 +82,20 @@ impl<'p> Phrases<'p> {
         })
     }
 
-    /// Performs what the pieces spell. What is written is appended to `out`.
+    /// Performs what the pieces spell, and tells whether no symbol was refused. What is written is
+    /// appended to `out`.
     pub fn say(
         &mut self,
         actor: &mut Actor<'p>,
         pieces: &[ByteWord],
         out: &mut Vec<u8>,
-    ) -> Result<(), Memory>
+    ) -> Result<bool, Memory>
         requires usable { IsTrue actor.old.usable }
         requires machine { actor.old.machine ≡ self.old.machine }
-        ensures performs { OnOk result (PerformsSaid actor.old actor.new
+        ensures performs { IfOk result (λ all. IsTrue all → PerformsSaid actor.old actor.new
             (code_over self.old.words pieces.now) out.old.items out.new.items) }
+        ensures refused { IfOk result (λ all. all ≡ false
+            → RefusesCode actor.old (code_over self.old.words pieces.now)) }
         ensures same { self.new ≡ self.old }
         ensures machine { actor.new.machine ≡ actor.old.machine }
         ensures usable { OnOk result (IsTrue actor.new.usable) }
@@ -106,8 +109,8 @@ impl<'p> Phrases<'p> {
             words: &self.words,
             machine: self.machine,
         };
-        tell(&lexicon, &mut self.notebook, actor, pieces, out)?;
+        let all = tell(&lexicon, &mut self.notebook, actor, pieces, out)?;
         self.usable = true;
-        Ok(())
+        Ok(all)
     }
 }

@@ -1,7 +1,7 @@
 // Byte words along edges with the actor, while new edges are learnt.
 
 ghost use Rattle.std.specs.Prelude.{◌≡◌, ◌<◌, ◌≤◌, ◌+◌, ◌*◌, ℕ, List, [], ◌∷◌, IsTrue, IfOk, OnOk};
-ghost use Rattle.std.specs.Prelude.{length, take, drop};
+ghost use Rattle.std.specs.Prelude.{false, length, take, drop};
 ghost use Rattle.kex_sst.specs.declared.parts.Part.{Part};
 ghost use Rattle.kex_action.specs.Actors.{Position};
 ghost use Rattle.kex_action.specs.Sheets.{IsSheet, IsBlank, IsAsLong};
@@ -9,7 +9,7 @@ ghost use Rattle.kex_script.specs.Pieces.{code_over};
 ghost use Rattle.kex_moves.specs.declared.along.TheConstants.{ROOM};
 ghost use Rattle.kex_moves.specs.declared.edges.Pair.{Pair};
 ghost use Rattle.kex_moves.specs.Known.{IsPairRow, IsKnown};
-ghost use Rattle.kex_moves.specs.Speech.{words_table, PerformsSaid, SaidOn};
+ghost use Rattle.kex_moves.specs.Speech.{words_table, PerformsSaid, RefusesCode, SaidOn};
 
 use crate::along::{RowPoint, RowStride, act, arrive, make_room, part_of, rounds_left};
 use crate::edge::EdgeKind;
@@ -256,14 +256,15 @@ fn tell_some(
     Ok(place.count)
 }
 
-/// Performs pieces: by edges, and symbol by symbol where no edge is known.
+/// Performs pieces: by edges, and symbol by symbol where no edge is known. Tells whether no symbol
+/// was refused.
 pub fn tell(
     lexicon: &Lexicon,
     notebook: &mut Notebook,
     actor: &mut Actor,
     pieces: &[ByteWord],
     out: &mut Vec<u8>,
-) -> Result<(), Memory>
+) -> Result<bool, Memory>
     requires usable { IsTrue actor.old.usable }
     requires machine { actor.old.machine ≡ lexicon.now.machine.now }
     requires known { IsKnown (words_table lexicon.now.words.now) lexicon.now.machine.now
@@ -272,8 +273,10 @@ pub fn tell(
     requires none { IsBlank notebook.old.sheet }
     ensures known { OnOk result (IsKnown (words_table lexicon.now.words.now)
         lexicon.now.machine.now notebook.new.edges) }
-    ensures performs { OnOk result (PerformsSaid actor.old actor.new
+    ensures performs { IfOk result (λ all. IsTrue all → PerformsSaid actor.old actor.new
         (code_over lexicon.now.words.now pieces.now) out.old.items out.new.items) }
+    ensures refused { IfOk result (λ all. all ≡ false
+        → RefusesCode actor.old (code_over lexicon.now.words.now pieces.now)) }
     ensures none { OnOk result (IsBlank notebook.new.sheet) }
     ensures room { OnOk result (IsAsLong notebook.old.sheet notebook.new.sheet) }
     ensures machine { actor.new.machine ≡ actor.old.machine }
@@ -285,9 +288,11 @@ pub fn tell(
         at += tell_some(lexicon, notebook, actor, rest, out)?;
         if at < pieces.len() {
             let symbols = &mut notebook.symbols;
-            take_word(lexicon.words, pieces[at], symbols, actor, out)?;
+            if !take_word(lexicon.words, pieces[at], symbols, actor, out)? {
+                return Ok(false);
+            }
             at += 1;
         }
     }
-    Ok(())
+    Ok(true)
 }

@@ -48,7 +48,8 @@ fn words_of_phrases(rt: HostRuntime) -> Result<(), Fail> {
         word: 69_999,
         byte: b'x',
     };
-    phrases.say(&mut actor, &[last], &mut out)?;
+    let all = phrases.say(&mut actor, &[last], &mut out)?;
+    assert!(rt; all);
     assert!(rt; out.as_slice() == b"<x>".as_slice());
     Ok(())
 }

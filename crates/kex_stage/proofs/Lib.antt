@@ -8,3 +8,4 @@ pub mod Followers
 pub mod PerformedSteps
 pub mod FedStages
 pub mod TableAnswers
+pub mod NoRefusals

@@ -7,6 +7,8 @@ use Rattle.kex_action.specs.Actors.{Position, HasPerformed}
 use Rattle.kex_stage.specs.Plans.{SaysAs}
 use Rattle.kex_stage.specs.declared.plan.Telling.{Telling}
 use Rattle.kex_stage.specs.declared.oracle.Oracle.{Oracle}
+use Rattle.kex_stage.specs.declared.speak.StageFault.{StageFault}
+use Rattle.kex_stage.specs.declared.speak.StageFault.TheVariants as faults
 use Rattle.kex_stage.specs.Oracles.{Hears}
 
 -- the oracle was fed w, the actor has performed what it told, and out was written
@@ -34,6 +36,12 @@ pub record StageWorks (old new : Oracle) (a b : Position) (piece : List ℕ) (co
   pub within : count ≤ length piece
   pub works : (k : Telling) (g : Graph) (w text : List ℕ) → Followed k g old a w text
       → IsViableFor g w → WorksOn k g new b w text piece count before after
+
+-- where oracle and actor have followed a text that can go on, the fault is want of memory: nothing
+-- that is told is refused
+abbrev pub RefusesNone : Oracle → Position → StageFault → Type 0
+RefusesNone o a fault = (k : Telling) (g : Graph) (w text : List ℕ) → Followed k g o a w text
+    → IsViableFor g w → fault ≡ faults.Memory
 
 -- bytes behind w are good, and more is written
 pub record GoesOn (k : Telling) (g : Graph) (o : Oracle) (a : Position)

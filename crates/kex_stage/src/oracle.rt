@@ -1,17 +1,18 @@
 // The oracle of a stage: a frontier of its machine, or a runner of its table.
 
-ghost use Rattle.std.specs.Prelude.{◌≡◌, ◌+◌, ◌^◌, ◌<◌, ◌≤◌, [], IfOk, OnOk, IsTrue, length};
+ghost use Rattle.std.specs.Prelude.{◌≡◌, ◌+◌, ◌^◌, ◌<◌, ◌≤◌, [], IfErr, IfOk, OnOk, IsTrue};
+ghost use Rattle.std.specs.Prelude.{length};
 ghost use Rattle.kex_machine.specs.Answers.{IsViableFor};
 ghost use Rattle.kex_machine.specs.Nodes.{Graph};
 ghost use Rattle.kex_stage.specs.declared.plan.Telling.{Telling};
 ghost use Rattle.kex_stage.specs.Oracles.{Hears, IsOracleFor, IsReady, TellsEnd, learnt_of};
 ghost use Rattle.kex_stage.specs.Oracles.{read_of, usable_of};
-ghost use Rattle.kex_stage.specs.Works.{StageFinishes, StageWorks};
+ghost use Rattle.kex_stage.specs.Works.{RefusesNone, StageFinishes, StageWorks};
 
 use crate::follower::Follower;
 use crate::paths::Paths;
 use crate::plan::Plan;
-use crate::speak::speak;
+use crate::speak::{StageFault, speak};
 use kex_action::actor::Actor;
 use kex_code::code::Code;
 use kex_code::memory::Memory;
@@ -92,13 +93,14 @@ impl<'p> Oracle<'p> {
         piece: &[u8],
         code: &mut Code,
         out: &mut Vec<u8>,
-    ) -> Result<usize, Memory>
+    ) -> Result<usize, StageFault>
         requires ready { IsReady self.old }
         requires actor { IsTrue actor.old.usable }
         requires learnt { learnt_of self.old actor.old.machine ≡ actor.old.machine }
         requires room { read_of self.old + length piece.now < 2 ^ 64 }
         ensures works { IfOk result (λ count. StageWorks self.old self.new actor.old actor.new
             piece.now count out.old.items out.new.items) }
+        ensures refuses { IfErr result (RefusesNone self.old actor.old) }
         ensures read { IfOk result (λ count. read_of self.new ≡ read_of self.old + count) }
         ensures within { read_of self.new ≤ read_of self.old + length piece.now }
         ensures machine { actor.new.machine ≡ actor.old.machine }
@@ -136,11 +138,12 @@ impl<'p> Oracle<'p> {
         actor: &mut Actor,
         code: &mut Code,
         out: &mut Vec<u8>,
-    ) -> Result<bool, Memory>
+    ) -> Result<bool, StageFault>
         requires ready { IsReady self.old }
         requires actor { IsTrue actor.old.usable }
         ensures finishes { IfOk result (λ parsed.
             StageFinishes parsed self.old actor.old out.old.items out.new.items) }
+        ensures refuses { IfErr result (RefusesNone self.old actor.old) }
         ensures read { read_of self.new ≡ read_of self.old }
         ensures machine { actor.new.machine ≡ actor.old.machine }
         ensures own { (k : Telling) (g : Graph) → IsOracleFor k g self.old

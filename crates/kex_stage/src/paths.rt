@@ -1,12 +1,13 @@
 // A frontier, and how many good bytes it was fed.
 
-ghost use Rattle.std.specs.Prelude.{◌≡◌, ◌+◌, ◌^◌, ◌<◌, ◌≤◌, [], false, IfOk, OnOk, IsTrue, length};
+ghost use Rattle.std.specs.Prelude.{◌≡◌, ◌+◌, ◌^◌, ◌<◌, ◌≤◌, [], false, IfErr, IfOk, OnOk, IsTrue};
+ghost use Rattle.std.specs.Prelude.{length};
 ghost use Rattle.kex_frontier.specs.Frontiers.{IsFed};
 ghost use Rattle.kex_stage.specs.Oracles.{OracleReads, Tells, TellsEnd, is_parsed};
-ghost use Rattle.kex_stage.specs.Works.{StageWorks};
+ghost use Rattle.kex_stage.specs.Works.{RefusesNone, StageWorks};
 
 use crate::oracle::Oracle;
-use crate::speak::speak;
+use crate::speak::{StageFault, speak};
 use kex_action::actor::Actor;
 use kex_code::code::Code;
 use kex_code::memory::Memory;
@@ -105,13 +106,14 @@ impl<'p> Paths<'p> {
         piece: &[u8],
         code: &mut Code,
         out: &mut Vec<u8>,
-    ) -> Result<usize, Memory>
+    ) -> Result<usize, StageFault>
         requires usable { IsTrue self.old.frontier.usable }
         requires open { self.old.frontier.ended ≡ false }
         requires actor { IsTrue actor.old.usable }
         requires room { self.old.read + length piece.now < 2 ^ 64 }
         ensures works { IfOk result (λ count. StageWorks (Oracle.Paths self.old) (Oracle.Paths
             self.new) actor.old actor.new piece.now count out.old.items out.new.items) }
+        ensures refuses { IfErr result (RefusesNone (Oracle.Paths self.old) actor.old) }
         ensures read { IfOk result (λ count. self.new.read ≡ self.old.read + count) }
         ensures within { self.new.read ≤ self.old.read + length piece.now }
         ensures same { self.new.frontier.machine ≡ self.old.frontier.machine }

@@ -10,6 +10,7 @@ ghost use Rattle.kex_stage.specs.Stages.{Gives, StageFollows, refused_at, teller
 
 use crate::oracle::Oracle;
 use crate::plan::{Plan, Telling};
+use crate::speak::StageFault;
 use kex_action::actor::Actor;
 use kex_code::code::Code;
 use kex_code::memory::Memory;
@@ -83,15 +84,22 @@ impl<'p> Worker for StageWorker<'p> {
     }
 
     fn go_on(&mut self, piece: &[u8], out: &mut Vec<u8>) -> Result<Option<u64>, Memory> {
-        let count = self
+        match self
             .oracle
-            .go_on(&mut self.actor, piece, &mut self.code, out)?;
-        Ok(refused_at(count < piece.len(), self.oracle.read()))
+            .go_on(&mut self.actor, piece, &mut self.code, out)
+        {
+            Ok(count) => Ok(refused_at(count < piece.len(), self.oracle.read())),
+            Err(StageFault::Refused) => Ok(Some(self.oracle.read())),
+            Err(StageFault::Memory) => Err(Memory),
+        }
     }
 
     fn finish(&mut self, out: &mut Vec<u8>) -> Result<bool, Memory> {
-        let parsed = self.oracle.finish(&mut self.actor, &mut self.code, out)?;
-        Ok(parsed)
+        match self.oracle.finish(&mut self.actor, &mut self.code, out) {
+            Ok(parsed) => Ok(parsed),
+            Err(StageFault::Refused) => Ok(false),
+            Err(StageFault::Memory) => Err(Memory),
+        }
     }
 }
 

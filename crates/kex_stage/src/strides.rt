@@ -1,15 +1,15 @@
 // How a follower goes along a piece.
 
-ghost use Rattle.std.specs.Prelude.{◌≡◌, ◌+◌, ◌^◌, ◌<◌, ◌≤◌, [], false, IfOk, OnOk, IsTrue, length};
-ghost use Rattle.std.specs.Prelude.{take};
+ghost use Rattle.std.specs.Prelude.{◌≡◌, ◌+◌, ◌^◌, ◌<◌, ◌≤◌, [], false, IfErr, IfOk, OnOk, IsTrue};
+ghost use Rattle.std.specs.Prelude.{length, take};
 ghost use Rattle.kex_script.specs.Pieces.{code_over};
 ghost use Rattle.kex_stage.specs.Oracles.{Tells, TellsEnd};
-ghost use Rattle.kex_stage.specs.Works.{StageGoes, StageWorks};
+ghost use Rattle.kex_stage.specs.Works.{RefusesNone, StageGoes, StageWorks};
 ghost use Rattle.kex_stage.specs.Strides.{HasGone};
 
 use crate::follower::Follower;
 use crate::oracle::Oracle;
-use crate::speak::speak;
+use crate::speak::{StageFault, speak};
 use kex_action::actor::Actor;
 use kex_code::code::Code;
 use kex_code::memory::Memory;
@@ -80,7 +80,7 @@ impl<'p> Follower<'p> {
         actor: &mut Actor<'p>,
         piece: &[u8],
         out: &mut Vec<u8>,
-    ) -> Result<Stride, Memory>
+    ) -> Result<Stride, StageFault>
         requires usable { IsTrue self.old.runner.usable }
         requires open { self.old.runner.ended ≡ false }
         requires actor { IsTrue actor.old.usable }
@@ -88,6 +88,7 @@ impl<'p> Follower<'p> {
         requires room { self.old.runner.read + length piece.now < 2 ^ 64 }
         ensures gone { IfOk result (λ s. HasGone s.refused (Oracle.Table self.old) (Oracle.Table
             self.new) actor.old actor.new piece.now s.count out.old.items out.new.items) }
+        ensures refuses { IfErr result (RefusesNone (Oracle.Table self.old) actor.old) }
         ensures some { IfOk result (λ s. 0 < length piece.now → s.refused ≡ false → 0 < s.count) }
         ensures count { IfOk result (λ s. s.count ≤ length piece.now) }
         ensures read { IfOk result (λ s. self.new.runner.read ≡ self.old.runner.read + s.count) }
@@ -99,7 +100,9 @@ impl<'p> Follower<'p> {
         ensures machine { actor.new.machine ≡ actor.old.machine }
     {
         let heard = self.hear(piece)?;
-        self.phrases.say(actor, &self.pieces, out)?;
+        if !self.phrases.say(actor, &self.pieces, out)? {
+            return Err(StageFault::Refused);
+        }
         let refused = heard.good < heard.taken;
         if refused {
             speak(actor, &[], out)?;
@@ -149,7 +152,7 @@ impl<'p> Follower<'p> {
         actor: &mut Actor<'p>,
         piece: &[u8],
         out: &mut Vec<u8>,
-    ) -> Result<Stride, Memory>
+    ) -> Result<Stride, StageFault>
         requires usable { IsTrue self.old.runner.usable }
         requires open { self.old.runner.ended ≡ false }
         requires actor { IsTrue actor.old.usable }
@@ -159,6 +162,7 @@ impl<'p> Follower<'p> {
         requires room { self.old.runner.read + length piece.now < 2 ^ 64 }
         ensures gone { IfOk result (λ s. HasGone s.refused (Oracle.Table self.old) (Oracle.Table
             self.new) actor.old actor.new piece.now s.count out.old.items out.new.items) }
+        ensures refuses { IfErr result (RefusesNone (Oracle.Table self.old) actor.old) }
         ensures some { IfOk result (λ s. s.refused ≡ false → 0 < s.count) }
         ensures count { IfOk result (λ s. s.count ≤ length piece.now) }
         ensures read { IfOk result (λ s. self.new.runner.read ≡ self.old.runner.read + s.count) }
@@ -185,7 +189,7 @@ impl<'p> Follower<'p> {
         actor: &mut Actor<'p>,
         piece: &[u8],
         out: &mut Vec<u8>,
-    ) -> Result<usize, Memory>
+    ) -> Result<usize, StageFault>
         requires usable { IsTrue self.old.runner.usable }
         requires open { self.old.runner.ended ≡ false }
         requires actor { IsTrue actor.old.usable }
@@ -193,6 +197,7 @@ impl<'p> Follower<'p> {
         requires room { self.old.runner.read + length piece.now < 2 ^ 64 }
         ensures works { IfOk result (λ count. StageWorks (Oracle.Table self.old) (Oracle.Table
             self.new) actor.old actor.new piece.now count out.old.items out.new.items) }
+        ensures refuses { IfErr result (RefusesNone (Oracle.Table self.old) actor.old) }
         ensures read { IfOk result (λ count. self.new.runner.read ≡ self.old.runner.read + count) }
         ensures within { self.new.runner.read ≤ self.old.runner.read + length piece.now }
         ensures usable { OnOk result (IsTrue self.new.runner.usable × IsTrue actor.new.usable) }

@@ -1,9 +1,10 @@
 use Rattle.std.proofs.Common.{◌≡◌, ◌+◌, ◌-◌, [], List, ℕ, true, length, take, drop, sym, ap, subst, ◌∙◌, arith, length-drop}
 use Rattle.std.proofs.lemmas.List.{length-take-le, take_all, take_rest}
 use Rattle.kex_stage.specs.declared.oracle.Oracle.TheVariants.{Table}
-use Rattle.kex_stage.specs.Works.{StageGoes, StageWorks}
+use Rattle.kex_stage.specs.Works.{RefusesNone, StageGoes, StageWorks}
 use Rattle.kex_stage.specs.Strides.{HasGone}
 use Rattle.kex_stage.proofs.Followers.{cut_at, goes_more, none_refused, rests, settles, taken_both, works_more}
+use Rattle.kex_stage.proofs.NoRefusals.{if_fault, none_on, rest_none}
 use Rattle.kex_stage.proofs.follower.Follower.go_on.Goals as goal
 
 pub strides-init : goal.strides-init
@@ -56,3 +57,32 @@ returns-clause-works c =
     let goes = subst (λ p. StageGoes (Table c.args.self.now) (Table c.strides.self) c.args.actor.now c.strides.actor p c.args.out.now.items c.strides.out.items) (take_all c.strides.at c.args.piece.now c.strides-test.false) c.strides.invariant.goes in
     subst (λ k. StageWorks (Table c.args.self.now) (Table c.strides.self) c.args.actor.now c.speak-2.new.actor c.args.piece.now k c.args.out.now.items c.speak-2.new.out.items) (sym all)
     (settles (Table c.args.self.now) c.strides.self c.args.actor.now c.strides.actor c.speak-2.new.actor c.args.piece.now c.args.out.now.items c.strides.out.items c.speak-2.new.out.items c.strides.invariant.told goes c.in_ok-speak-2.ensures.took c.in_ok-speak-2.ensures.machine)
+
+pub returns-in_err-speak-clause-refuses : goal.returns-in_err-speak-clause-refuses
+returns-in_err-speak-clause-refuses c =
+    let fault = c.in_err-speak.field-0.0 in
+    if_fault c.from_residual.result fault (λ e. RefusesNone (Table c.args.self.now) c.args.actor.now e) c.from_residual.ensures.1
+    (rest_none c.args.self.now c.args.actor.now fault c.in_err-speak.ensures.refused)
+
+pub returns-in_err-_none-clause-refuses : goal.returns-in_err-_none-clause-refuses
+returns-in_err-_none-clause-refuses c =
+    let fault = c.in_err-_none.field-0.0 in
+    let old = c.args.actor.now in
+    let new = c.speak.new.actor in
+    let x = c.args.out.now.items in
+    let y = c.speak.new.out.items in
+    let o = Table c.args.self.now in
+    if_fault c.from_residual-in_err-_none.result fault (λ e. RefusesNone o old e) c.from_residual-in_err-_none.ensures.1
+    (none_on o o old new [] x y fault (rests o old new x y c.in_ok-speak.ensures.took c.in_ok-speak.ensures.machine) c.in_err-_none.ensures.refuses)
+
+pub returns-in_err-stride-clause-refuses : goal.returns-in_err-stride-clause-refuses
+returns-in_err-stride-clause-refuses c =
+    let fault = c.in_err-stride.field-0.0 in
+    if_fault c.from_residual-in_err-stride.result fault (λ e. RefusesNone (Table c.args.self.now) c.args.actor.now e) c.from_residual-in_err-stride.ensures.1
+    (none_on (Table c.args.self.now) (Table c.strides.self) c.args.actor.now c.strides.actor (take c.strides.at c.args.piece.now) c.args.out.now.items c.strides.out.items fault c.strides.invariant.goes c.in_err-stride.ensures.refuses)
+
+pub returns-in_err-speak-2-clause-refuses : goal.returns-in_err-speak-2-clause-refuses
+returns-in_err-speak-2-clause-refuses c =
+    let fault = c.in_err-speak-2.field-0.0 in
+    if_fault c.from_residual-in_err-speak-2.result fault (λ e. RefusesNone (Table c.args.self.now) c.args.actor.now e) c.from_residual-in_err-speak-2.ensures.1
+    (none_on (Table c.args.self.now) (Table c.strides.self) c.args.actor.now c.strides.actor (take c.strides.at c.args.piece.now) c.args.out.now.items c.strides.out.items fault c.strides.invariant.goes (rest_none c.strides.self c.strides.actor fault c.in_err-speak-2.ensures.refused))

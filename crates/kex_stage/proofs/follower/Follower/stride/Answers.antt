@@ -2,6 +2,8 @@ use Rattle.std.proofs.Common.{◌-◌, ◌++◌, List, ℕ, length, take, drop, 
 use Rattle.std.proofs.lemmas.List.{take_rest}
 use Rattle.kex_stage.specs.declared.oracle.Oracle.TheVariants.{Table}
 use Rattle.kex_stage.proofs.Followers.{strides}
+use Rattle.kex_stage.specs.Works.{RefusesNone}
+use Rattle.kex_stage.proofs.NoRefusals.{if_fault, none_on}
 use Rattle.kex_stage.proofs.follower.Follower.stride.Goals as goal
 
 pub returns-clause-gone : goal.returns-clause-gone
@@ -17,3 +19,9 @@ returns-clause-gone c =
     c.in_ok-stepped.ensures.count
     c.in_ok-ran.ensures.goes
     c.in_ok-stepped.ensures.gone
+
+pub returns-in_err-stepped-clause-refuses : goal.returns-in_err-stepped-clause-refuses
+returns-in_err-stepped-clause-refuses c =
+    let fault = c.in_err-stepped.field-0.0 in
+    if_fault c.from_residual-in_err-stepped.result fault (λ e. RefusesNone (Table c.args.self.now) c.args.actor.now e) c.from_residual-in_err-stepped.ensures.1
+    (none_on (Table c.args.self.now) (Table c.run.new.self) c.args.actor.now c.run.new.actor (take c.in_ok-ran.ran c.args.piece.now) c.args.out.now.items c.run.new.out.items fault c.in_ok-ran.ensures.goes c.in_err-stepped.ensures.refuses)

@@ -1,25 +1,29 @@
-use Rattle.std.proofs.Common.{◌≡◌, List, ℕ, subst, sym, ◌∙◌}
+use Rattle.std.proofs.Common.{◌≡◌, false, IfOk, List, ℕ, subst, sym, ◌∙◌}
 use Rattle.kex_pipe.specs.Working.{CameToEnd}
 use Rattle.kex_stage.specs.Stages.{StageFollows, WorkerState}
+use Rattle.kex_stage.specs.Works.{RefusesNone}
 use Rattle.kex_stage.proofs.FedStages.{ClosesStage, stage_ends}
+use Rattle.kex_stage.proofs.NoRefusals.{Ends, ends_none}
 use Rattle.kex_stage.specs.Oracles.{IsOracleFor, learnt_of}
 use Rattle.kex_stage.proofs.stage.StageWorkerWorker.finish.Goals as goal
+use Rattle.kex_stage.proofs.stage.StageWorkerWorker.finish.Goals.{in-Ok, in-Err-Refused, in-Err-Memory}
 
 pub returns-clause-ends : goal.returns-clause-ends
 returns-clause-ends c =
     let s = c.self.inside in
-    subst (λ (z : WorkerState). (w text : List ℕ) → StageFollows z.telling z.oracle z.actor w text → CameToEnd (λ u b t. ClosesStage z.telling z.actor.machine u b t) w text c.in_ok-parsed.parsed c.args.out.now.items c.finish.new.out.items) c.self.view_is
-    (λ w text follows. stage_ends s.telling s.oracle s.actor w text c.args.out.now.items c.finish.new.out.items c.in_ok-parsed.parsed follows c.in_ok-parsed.ensures.finishes)
+    let x = c.args.out.now.items in
+    let y = c.finish.new.out.items in
+    let answered : IfOk c.match-finish.result (λ parsed. Ends s.telling s.oracle s.actor x y parsed) = elim c.match-finish.branch [
+      | in-Ok w ↦ subst (λ r. IfOk r (λ parsed. Ends s.telling s.oracle s.actor x y parsed)) (sym w.result-is) (λ u text follows. stage_ends s.telling s.oracle s.actor u text x y w.in-Ok.parsed follows w.in-Ok.ensures.finishes)
+      | in-Err-Refused w ↦
+          let none = subst (λ f. RefusesNone s.oracle s.actor f) w.in-Err-Refused.field-0-is w.in-Err-Refused.ensures.refuses in
+          subst (λ r. IfOk r (λ parsed. Ends s.telling s.oracle s.actor x y parsed)) (sym w.result-is) (ends_none s.telling s.oracle s.actor x y false none)
+      | in-Err-Memory w ↦ subst (λ r. IfOk r (λ parsed. Ends s.telling s.oracle s.actor x y parsed)) (sym w.result-is) tt
+    ] in
+    subst (λ (z : WorkerState). IfOk c.match-finish.result (λ parsed. (w text : List ℕ) → StageFollows z.telling z.oracle z.actor w text → CameToEnd (λ u e t. ClosesStage z.telling z.actor.machine u e t) w text parsed x y)) c.self.view_is answered
 
 pub invariant_of-self : goal.invariant_of-self
 invariant_of-self c =
-    let m = c.self.inside.actor.machine in
-    let same = sym c.finish.ensures.machine in
-    let o = c.finish.new.self in
-    (subst (λ z. learnt_of o z ≡ z) same (c.finish.ensures.learnt m ∙ c.self.invariant.0), subst (λ z. IsOracleFor c.self.inside.telling z o) same (c.finish.ensures.own c.self.inside.telling m c.self.invariant.1))
-
-pub invariant_of-self-2 : goal.invariant_of-self-2
-invariant_of-self-2 c =
     let m = c.self.inside.actor.machine in
     let same = sym c.finish.ensures.machine in
     let o = c.finish.new.self in

@@ -1,31 +1,39 @@
-use Rattle.std.proofs.Common.{◌≡◌, nat_lt, length, sym, subst, ap, ◌∙◌, Bool, Option, ℕ, List}
+use Rattle.std.proofs.Common.{◌≡◌, nat_lt, length, sym, subst, ap, ◌∙◌, Bool, IfOk, Option, ℕ, List}
 use Rattle.std.proofs.lemmas.Bool.{ltb-true, ltb-false}
 use Rattle.kex_pipe.specs.Working.{ReadMore}
 use Rattle.kex_stage.specs.Oracles.{IsOracleFor, read_of}
 use Rattle.kex_stage.specs.Stages.{StageFollows, WorkerState, refused_at}
+use Rattle.kex_stage.specs.Works.{RefusesNone}
 use Rattle.kex_stage.proofs.FedStages.{SaysStage, stage_reads}
+use Rattle.kex_stage.proofs.NoRefusals.{Reads, reads_none}
 use Rattle.kex_stage.proofs.stage.StageWorkerWorker.go_on.Goals as goal
+use Rattle.kex_stage.proofs.stage.StageWorkerWorker.go_on.Goals.{in-Ok, in-Err-Refused, in-Err-Memory}
 
 pub returns-clause-reads : goal.returns-clause-reads
 returns-clause-reads c =
     let s = c.self.inside in
     let piece = c.args.piece.now in
-    let count = c.in_ok-count.count in
-    let refused : Bool = nat_lt count (length piece) in
-    let at : c.refused_at.result ≡ refused_at refused (read_of c.go_on.new.self) = c.refused_at.ensures ∙ ap (λ z. refused_at refused z) c.read.ensures in
-    subst (λ (z : WorkerState). (w text : List ℕ) → StageFollows z.telling z.oracle z.actor w text → ReadMore (λ u k t. SaysStage z.telling z.actor.machine u k t) (λ u t. StageFollows s.telling c.go_on.new.self c.go_on.new.actor u t) w text piece c.refused_at.result c.args.out.now.items c.go_on.new.out.items) c.self.view_is
-    (λ w text follows.
-    let more = stage_reads s.telling s.oracle c.go_on.new.self s.actor c.go_on.new.actor w text piece count c.args.out.now.items c.go_on.new.out.items follows
-    c.in_ok-count.ensures.works c.in_ok-count.ensures.read c.in_ok-count.ensures.machine refused
-    (λ t. ltb-true count (length piece) t) (λ t. ltb-false count (length piece) t) in
-    subst (λ (z : Option ℕ). ReadMore (λ u k t. SaysStage s.telling s.actor.machine u k t) (λ u t. StageFollows s.telling c.go_on.new.self c.go_on.new.actor u t) w text piece z c.args.out.now.items c.go_on.new.out.items) (sym at) more)
+    let new = c.go_on.new.self in
+    let b = c.go_on.new.actor in
+    let x = c.args.out.now.items in
+    let y = c.go_on.new.out.items in
+    let answered : IfOk c.match-go_on.result (λ at. Reads s.telling s.oracle new s.actor b x y piece at) = elim c.match-go_on.branch [
+      | in-Ok w ↦
+          let count = w.in-Ok.count in
+          let refused : Bool = nat_lt count (length piece) in
+          let at : w.refused_at.result ≡ refused_at refused (read_of new) = w.refused_at.ensures ∙ ap (λ z. refused_at refused z) w.read.ensures in
+          let read : Reads s.telling s.oracle new s.actor b x y piece (refused_at refused (read_of new)) = λ u text follows.
+          stage_reads s.telling s.oracle new s.actor b u text piece count x y follows w.in-Ok.ensures.works w.in-Ok.ensures.read w.in-Ok.ensures.machine refused
+          (λ t. ltb-true count (length piece) t) (λ t. ltb-false count (length piece) t) in
+          subst (λ r. IfOk r (λ at. Reads s.telling s.oracle new s.actor b x y piece at)) (sym w.result-is) (subst (λ at. Reads s.telling s.oracle new s.actor b x y piece at) (sym at) read)
+      | in-Err-Refused w ↦
+          let none = subst (λ f. RefusesNone s.oracle s.actor f) w.in-Err-Refused.field-0-is w.in-Err-Refused.ensures.refuses in
+          subst (λ r. IfOk r (λ at. Reads s.telling s.oracle new s.actor b x y piece at)) (sym w.result-is) (reads_none s.telling s.oracle new s.actor b x y piece _ none)
+      | in-Err-Memory w ↦ subst (λ r. IfOk r (λ at. Reads s.telling s.oracle new s.actor b x y piece at)) (sym w.result-is) tt
+    ] in
+    subst (λ (z : WorkerState). IfOk c.match-go_on.result (λ at. (w text : List ℕ) → StageFollows z.telling z.oracle z.actor w text → ReadMore (λ u k t. SaysStage z.telling z.actor.machine u k t) (λ u t. StageFollows s.telling new b u t) w text piece at x y)) c.self.view_is answered
 
 pub invariant_of-self : goal.invariant_of-self
 invariant_of-self c =
-    let m = c.self.inside.actor.machine in
-    (c.go_on.ensures.learnt, subst (λ z. IsOracleFor c.self.inside.telling z c.go_on.new.self) (sym c.go_on.ensures.machine) (c.go_on.ensures.own c.self.inside.telling m c.self.invariant.1))
-
-pub invariant_of-self-2 : goal.invariant_of-self-2
-invariant_of-self-2 c =
     let m = c.self.inside.actor.machine in
     (c.go_on.ensures.learnt, subst (λ z. IsOracleFor c.self.inside.telling z c.go_on.new.self) (sym c.go_on.ensures.machine) (c.go_on.ensures.own c.self.inside.telling m c.self.invariant.1))
