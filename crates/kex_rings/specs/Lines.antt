@@ -2,6 +2,7 @@
 use Rattle.std.specs.Prelude.{◌≡◌, ◌≤◌, ◌<◌, ◌+◌, ◌-◌, ℕ, suc, List, [], ◌∷◌, ◌++◌, map, length}
 use Rattle.std.specs.Prelude.{min, All, IsSome}
 use Rattle.kex_model.specs.Schedules.{StreamItem, byte, Progress, Event, turn, After, Settled}
+use Rattle.kex_pipe.specs.Events.{bytes_given, end_given}
 use Rattle.kex_pipe.specs.Seats.{IsWhole, Sits}
 use Rattle.kex_pipe.specs.Waiting.{waiting_items}
 use Rattle.kex_pipe.specs.declared.inbox.Inbox.{Inbox}
@@ -42,9 +43,9 @@ module _ {T : Type 0} (t : Ghosts T) where
   LineSettles ss b ss' b' = (ps : List t.Plan) (h : List Event) (came : List StreamItem)
       (xs : List Progress) (taken : List ℕ) → IsWhole came → After t.gives ps h came xs
       → RingLine came [] ps ss xs b taken
-      → (counts : List ℕ) × (ys : List Progress)
-      × After t.gives ps (h ++ turns_from 0 counts) came ys × RingLine came [] ps ss' ys b' taken
-      × Settled t.gives came ps ys
+      → (events : List Event) × (bytes_given events ≡ bytes_given h)
+      × (end_given events ≡ end_given h) × (ys : List Progress) × After t.gives ps events came ys
+      × RingLine came [] ps ss' ys b' taken × Settled t.gives came ps ys
 
   -- each neighbours' ends of the ring between them are so; before the first one is this end, and
   -- behind the last one none

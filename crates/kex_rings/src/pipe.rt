@@ -36,7 +36,6 @@ pub struct RingPipe<T: Turn> {
     pub(crate) output: Inbox,
     pub(crate) ended: bool,
     pub(crate) spent: bool,
-    pub(crate) carried: usize,
     ghost some: { spent ≡ false → 0 < vec_len seats },
     ghost few: { vec_len seats < 2 ^ 32 },
     ghost all_usable: { spent ≡ false → All (λ s. IsTrue s.seat.usable) seats.items },
@@ -92,7 +91,6 @@ impl<T: Turn + Drop> RingPipe<T> {
             output: Inbox::new(alloc),
             ended: false,
             spent: false,
-            carried: 0,
         })
     }
 
@@ -202,13 +200,6 @@ impl<T: Turn + Drop> RingPipe<T> {
         report
     }
 
-    /// How many bytes at most a stage had to hand on when the pipe was last settled.
-    pub fn most_carried(&self) -> usize
-        ensures { result ≡ self.now.carried }
-    {
-        self.carried
-    }
-
     /// How many bytes of output are in hand.
     pub fn output_length(&self) -> usize
         ensures { result ≡ length (rings_in_hand T.Turn self.now) }
@@ -261,8 +252,9 @@ impl<T: Turn + Drop> RingPipe<T> {
         out
     }
 
-    /// Works off all that waits, on this thread: stage after stage, each takes what lies in the
-    /// ring before it, and then what was unsent. Every ring is made anew.
+    /// Works off all that waits, on this thread and in steps: each stage takes what lies in the
+    /// ring before it, and then what was unsent. What it writes in a step is worked off before its
+    /// next one. Every ring is made anew. `Memory` comes also after more steps than a `u64` counts.
     pub fn settle(&mut self) -> Result<(), PipeFault>
         ensures works { OnOk result ((ps : List T.Plan) (h : List Event) (taken : List ℕ)
             → RingsStand T.Turn ps self.old h taken → WorksOff T.Turn ps self.new h taken) }
@@ -286,13 +278,7 @@ impl<T: Turn + Drop> RingPipe<T> {
             return Err(PipeFault::Spent);
         }
         let seats = replace(&mut self.seats, Vec::new(self.alloc));
-        match settle_all(
-            self.alloc,
-            self.room,
-            seats,
-            &mut self.output,
-            &mut self.carried,
-        ) {
+        match settle_all(self.alloc, self.room, seats, &mut self.output) {
             Ok(row) => {
                 self.seats = row;
                 Ok(())

@@ -1,13 +1,14 @@
-// All that waits is worked off, stage after stage.
+// All that waits is worked off, step by step.
 
-ghost use Rattle.std.specs.Prelude.{◌≡◌, ◌++◌, [], List, ℕ, None, IsTrue, IfOk, OnOk, OnErr};
-ghost use Rattle.std.specs.Prelude.{length};
+ghost use Rattle.std.specs.Prelude.{◌≡◌, ◌<◌, ◌++◌, [], List, ℕ, None, true, All, IsTrue, IfOk};
+ghost use Rattle.std.specs.Prelude.{IfSome, OnOk, OnErr, length};
 ghost use Rattle.kex_pipe.specs.Waiting.{unread_bytes, waiting_items};
 ghost use Rattle.kex_pipe.specs.Seats.{IsWhole};
 ghost use Rattle.kex_rings.specs.Ends.{AreBeside, seen_in};
 ghost use Rattle.kex_rings.specs.Items.{items_as};
-ghost use Rattle.kex_rings.specs.Looking.{AllRingSeatsUsable};
-ghost use Rattle.kex_rings.specs.Settling.{SettlesBy, SettlesAll, AllSeatsUsable};
+ghost use Rattle.kex_rings.specs.Looking.{AllRingSeatsUsable, IsEmpty};
+ghost use Rattle.kex_rings.specs.Settling.{Gathers, GathersAll, HandsOn, StageSteps, LineWorks};
+ghost use Rattle.kex_rings.specs.Settling.{AllSeatsUsable, AllAtRest};
 ghost use Rattle.kex_rings.specs.Lines.{Joined, AreNew, HaveRings, LineSettles};
 
 use crate::item::Item;
@@ -21,6 +22,9 @@ use kex_pipe::turn::Turn;
 use rtrb::Consumer;
 use std::alloc::Global;
 
+/// A stage takes so many items in a step, at most.
+const STEP: u64 = 4_096;
+
 // Takes all that is seen in the ring, if there is one.
 fn empty(from: Option<Consumer<Item>>, inbox: &mut Inbox) -> Result<(), Memory>
     ensures { OnOk result (IsWhole (waiting_items inbox.old ++ items_as (seen_in from))
@@ -32,13 +36,13 @@ fn empty(from: Option<Consumer<Item>>, inbox: &mut Inbox) -> Result<(), Memory>
     }
 }
 
-// The stage takes what lies in its ring and then what was carried here, and what it has written is
-// carried on.
-fn settle_one<T: Turn + Drop>(seat: RingSeat<T>, carried: &mut Inbox) -> Result<Seat<T>, Memory>
+// The stage without its rings. Before it lies what lay in its ring, and then what the stage before
+// it had not sent; what it has not sent itself comes in the place of that.
+fn gather_one<T: Turn + Drop>(seat: RingSeat<T>, unsent: &mut Inbox) -> Result<Seat<T>, Memory>
     requires { IsTrue seat.seat.usable }
     ensures usable { IfOk result (λ s. IsTrue s.usable) }
-    ensures settles { IfOk result (λ s.
-        SettlesBy T.Turn seat s (waiting_items carried.old) (waiting_items carried.new)) }
+    ensures gathers { IfOk result (λ s.
+        Gathers T.Turn seat s (waiting_items unsent.old) (waiting_items unsent.new)) }
 {
     let RingSeat {
         mut seat,
@@ -47,44 +51,128 @@ fn settle_one<T: Turn + Drop>(seat: RingSeat<T>, carried: &mut Inbox) -> Result<
         took: _,
     } = seat;
     empty(from, &mut seat.inbox)?;
-    seat.inbox.append(carried)?;
-    let all = seat.inbox.count();
-    seat.take(all)?;
-    carried.append(&mut seat.outbox)?;
+    seat.inbox.append(unsent)?;
+    unsent.append(&mut seat.outbox)?;
     Ok(seat)
 }
 
-// The same for all of them. `most` becomes the number of bytes that were carried on at most.
-fn settle_each<T: Turn + Drop>(
+// The same for all of them.
+fn gather_each<T: Turn + Drop>(
     alloc: Global,
     seats: Vec<RingSeat<T>>,
-    carried: &mut Inbox,
-    most: &mut usize,
+    unsent: &mut Inbox,
 ) -> Result<Vec<Seat<T>>, Memory>
     requires { AllRingSeatsUsable T.Turn seats.items }
-    ensures usable { IfOk result (λ settled. AllSeatsUsable T.Turn settled.items) }
-    ensures settles { IfOk result (λ settled. SettlesAll T.Turn seats.items settled.items
-        (waiting_items carried.old) (waiting_items carried.new)) }
+    ensures usable { IfOk result (λ row. AllSeatsUsable T.Turn row.items) }
+    ensures gathers { IfOk result (λ row. GathersAll T.Turn seats.items row.items
+        (waiting_items unsent.old) (waiting_items unsent.new)) }
 {
-    let mut settled = Vec::new(alloc);
-    *most = 0;
+    let mut row = Vec::new(alloc);
     for seat in seats {
-        let after = settle_one(seat, carried)?;
-        settled.push(after)?;
-        *most = carried.byte_count().max(*most);
+        let gathered = gather_one(seat, unsent)?;
+        row.push(gathered)?;
     }
-    Ok(settled)
+    Ok(row)
 }
 
-/// The stages with new rings, after each has taken all that waits before it, those in front first.
-/// What the last one has written goes behind the output in hand. `most` becomes the number of bytes
-/// that were carried at most from a stage on.
+// What a stage has written is handed on: before the next one, and behind the last one to what was
+// made.
+fn hand_on<T: Turn>(
+    outbox: &mut Inbox,
+    behind: &mut [Seat<T>],
+    made: &mut Inbox,
+) -> Result<(), Memory>
+    requires { AllSeatsUsable T.Turn behind.old }
+    ensures usable { OnOk result (AllSeatsUsable T.Turn behind.new) }
+    ensures count { length behind.new ≡ length behind.old }
+    ensures none_left { OnOk result (waiting_items outbox.new ≡ []) }
+    ensures moves { OnOk result
+        (HandsOn T.Turn outbox.old behind.old made.old behind.new made.new) }
+{
+    if behind.is_empty() {
+        return made.append(outbox);
+    }
+    let next = &mut behind[0];
+    next.inbox.append(outbox)
+}
+
+// The stage with this number, counted from 0, takes a turn, and what it has written is handed on.
+fn step<T: Turn>(seats: &mut [Seat<T>], made: &mut Inbox, i: usize) -> Result<(), Memory>
+    requires seat { i < length seats.old }
+    requires usable { AllSeatsUsable T.Turn seats.old }
+    ensures usable { OnOk result (AllSeatsUsable T.Turn seats.new) }
+    ensures count { length seats.new ≡ length seats.old }
+    ensures steps { OnOk result
+        (StageSteps T.Turn i STEP seats.old made.old seats.new made.new) }
+{
+    seats[i].take(STEP)?;
+    let (front, behind) = seats.split_at_mut(i + 1);
+    let seat = &mut front[i];
+    hand_on(&mut seat.outbox, behind, made)
+}
+
+// The last stage before which something waits, if there is one.
+fn last_waiting<T: Turn>(seats: &[Seat<T>]) -> Option<usize>
+    ensures within { IfSome result (λ i. i < length seats.now) }
+    ensures none { result ≡ None → All (λ s. IsEmpty s.inbox) seats.now }
+{
+    for i in (0..seats.len()).rev() {
+        if !seats[i].inbox.is_empty() {
+            return Some(i);
+        }
+    }
+    None
+}
+
+// The first stage that had no turn yet, if there is one.
+fn first_unturned<T: Turn>(seats: &[Seat<T>]) -> Option<usize>
+    ensures within { IfSome result (λ i. i < length seats.now) }
+    ensures none { result ≡ None → All (λ s. s.staged.turned ≡ true) seats.now }
+{
+    for i in 0..seats.len() {
+        if !seats[i].staged.turned {
+            return Some(i);
+        }
+    }
+    None
+}
+
+// The stage that goes next. What a stage has written is worked off before it writes more.
+fn next_stage<T: Turn>(seats: &[Seat<T>]) -> Option<usize>
+    ensures within { IfSome result (λ i. i < length seats.now) }
+    ensures none { result ≡ None → AllAtRest T.Turn seats.now }
+{
+    match last_waiting(seats) {
+        Some(i) => Some(i),
+        None => first_unturned(seats),
+    }
+}
+
+// Steps, until all stages are at rest. What waits between two of them is what the first one has
+// written in a step. `Memory` comes also after more steps than a `u64` counts.
+fn work_off<T: Turn>(seats: &mut [Seat<T>], made: &mut Inbox) -> Result<(), Memory>
+    requires { AllSeatsUsable T.Turn seats.old }
+    ensures usable { OnOk result (AllSeatsUsable T.Turn seats.new) }
+    ensures count { length seats.new ≡ length seats.old }
+    ensures works { OnOk result (LineWorks T.Turn seats.old made.old seats.new made.new) }
+    ensures rest { OnOk result (AllAtRest T.Turn seats.new) }
+{
+    'steps: for _step in 0..u64::MAX {
+        let Some(i) = next_stage(seats) else {
+            return Ok(());
+        };
+        step(seats, made, i)?;
+    }
+    Err(Memory)
+}
+
+/// The stages with new rings, after all that waits was worked off. What the last one has written
+/// goes behind the output in hand.
 pub(crate) fn settle_all<T: Turn + Drop>(
     alloc: Global,
     room: u32,
     seats: Vec<RingSeat<T>>,
     output: &mut Inbox,
-    most: &mut usize,
 ) -> Result<Vec<RingSeat<T>>, Memory>
     requires { AllRingSeatsUsable T.Turn seats.items }
     ensures usable { IfOk result (λ row. AllRingSeatsUsable T.Turn row.items) }
@@ -96,9 +184,11 @@ pub(crate) fn settle_all<T: Turn + Drop>(
         LineSettles T.Turn seats.items output.old row.items output.new) }
     ensures hand { OnErr result (unread_bytes output.new ≡ unread_bytes output.old) }
 {
-    let mut carried = Inbox::new(alloc);
-    let settled = settle_each(alloc, seats, &mut carried, most)?;
-    let row = join_all(alloc, room, settled)?;
-    output.append(&mut carried)?;
+    let mut unsent = Inbox::new(alloc);
+    let mut gathered = gather_each(alloc, seats, &mut unsent)?;
+    let mut made = Inbox::new(alloc);
+    work_off(&mut gathered, &mut made)?;
+    let row = join_all(alloc, room, gathered)?;
+    output.append(&mut made)?;
     Ok(row)
 }

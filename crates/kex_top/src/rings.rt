@@ -50,7 +50,7 @@ fn most_of(counts: &[u64]) -> usize {
 }
 
 /// Makes some rounds, as long as something waits, and settles the rest. Tells how much at most a
-/// stage took in a round or had to hand on.
+/// stage took in a round.
 pub(crate) fn work_off<R: Threads + Sync, T: Turn + Drop + Send, G: Gate + Sync>(
     rt: &R,
     pipe: &mut RingPipe<T>,
@@ -77,7 +77,7 @@ pub(crate) fn work_off<R: Threads + Sync, T: Turn + Drop + Send, G: Gate + Sync>
         most = most_of(&work.counts).max(most);
     }
     pipe.settle()?;
-    Ok(pipe.most_carried().max(most))
+    Ok(most)
 }
 
 /// Gives bytes in pieces, each of which the stages work off. Tells how many were given: all, or by

@@ -2,8 +2,7 @@ use Rattle.std.proofs.Common.{[], ◌++◌, sym, subst}
 use Rattle.kex_code.specs.Codes.{Begins}
 use Rattle.kex_model.specs.Schedules.{Settled}
 use Rattle.kex_pipe.proofs.Schedule.{came-given}
-use Rattle.kex_rings.specs.Lines.{RingLine, turns_from}
-use Rattle.kex_rings.proofs.StageTurns.{same-bytes, same-end}
+use Rattle.kex_rings.specs.Lines.{RingLine}
 use Rattle.kex_rings.proofs.Standings.{standing-and, has-written, stands-begins, whole-given}
 use Rattle.kex_rings.proofs.pipe.RingPipe.settle.Goals as goal
 
@@ -11,8 +10,8 @@ pub returns-in-Ok-clause-works : goal.returns-in-Ok-clause-works
 returns-in-Ok-clause-works g c = λ ps h taken s.
     let t = g.T.Turn in
     let r = c.in-Ok.ensures.settles ps h s.came s.seats taken (whole-given h s.came (came-given t.gives s.after)) s.after (subst (λ z. RingLine t s.came [] ps z.items s.seats c.args.self.now.output taken) (sym c.replace-seats.ensures.value) s.line) in
-    let both = standing-and t (λ came xs. Settled t.gives came ps xs) ps _ (h ++ turns_from 0 r.0) taken s.came r.1 r.2 r.3 s.same_end s.going r.4 in
-    record { events = h ++ turns_from 0 r.0; same_bytes = same-bytes h 0 r.0; same_end = same-end h 0 r.0; stands = both.0; settled = both.1 }
+    let both = standing-and t (λ came xs. Settled t.gives came ps xs) ps _ r.0 taken s.came r.3 r.4 r.5 s.same_end s.going r.6 in
+    record { events = r.0; same_bytes = r.1; same_end = r.2; stands = both.0; settled = both.1 }
 
 pub returns-in-Err-clause-begins : goal.returns-in-Err-clause-begins
 returns-in-Err-clause-begins g c = λ ps h taken s text report answer.
