@@ -46,22 +46,22 @@ module _ {T : Type 0} (t : Ghosts T) where
   ring-plans came ahead ps ss xs b taken h = absurd h
 
   pub same-plans : (ps : List t.Plan) (pipe : AnyPipe T t) (h : List Event) (taken : List ℕ) → AnyPipeStands t ps pipe h taken → plans_of t pipe ≡ ps
-  same-plans ps (Rounds pipe) h taken s = line-plans s.came ps pipe.seats.items s.seats pipe.output taken s.line
+  same-plans ps (Rounds pipe length) h taken s = line-plans s.came ps pipe.seats.items s.seats pipe.output taken s.line
   same-plans ps (Turns pipe sharing) h taken s = line-plans s.came ps pipe.seats.items s.seats pipe.output taken s.line
   same-plans ps (Rings pipe work) h taken s = ring-plans s.came [] ps pipe.seats.items s.seats pipe.output taken s.line
 
   pub is-closed : (ps : List t.Plan) (pipe : AnyPipe T t) (h : List Event) (taken : List ℕ) → AnyPipeStands t ps pipe h taken → is_any_in_round t pipe ≡ false
-  is-closed ps (Rounds pipe) h taken s = s.closed
+  is-closed ps (Rounds pipe length) h taken s = s.closed
   is-closed ps (Turns pipe sharing) h taken s = s.closed
   is-closed ps (Rings pipe work) h taken s = refl
 
   is-going : (ps : List t.Plan) (pipe : AnyPipe T t) (h : List Event) (taken : List ℕ) → AnyPipeStands t ps pipe h taken → is_any_spent t pipe ≡ false
-  is-going ps (Rounds pipe) h taken s = s.going
+  is-going ps (Rounds pipe length) h taken s = s.going
   is-going ps (Turns pipe sharing) h taken s = s.going
   is-going ps (Rings pipe work) h taken s = s.going
 
   end-as-given : (ps : List t.Plan) (pipe : AnyPipe T t) (h : List Event) (taken : List ℕ) → AnyPipeStands t ps pipe h taken → piped.is_any_ended t pipe ≡ end_given h
-  end-as-given ps (Rounds pipe) h taken s = s.same_end ∙ ap has_end (came-given t.gives s.after) ∙ end-items (bytes_given h) (end_given h)
+  end-as-given ps (Rounds pipe length) h taken s = s.same_end ∙ ap has_end (came-given t.gives s.after) ∙ end-items (bytes_given h) (end_given h)
   end-as-given ps (Turns pipe sharing) h taken s = s.same_end ∙ ap has_end (came-given t.gives s.after) ∙ end-items (bytes_given h) (end_given h)
   end-as-given ps (Rings pipe work) h taken s = s.same_end ∙ ap has_end (came-given t.gives s.after) ∙ end-items (bytes_given h) (end_given h)
 

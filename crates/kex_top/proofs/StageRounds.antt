@@ -1,5 +1,5 @@
 -- Rounds give nothing, and each settles one stage more.
-use Rattle.std.proofs.Common.{◌≡◌, ℕ, zero, suc, ◌≤◌, ◌-◌, take, drop, Bool, true, false, List, [], ◌∷◌, ◌++◌, ◌||◌, length, map, refl, sym, ap, ◌∙◌, arith, append-nil, append_assoc}
+use Rattle.std.proofs.Common.{◌≡◌, ℕ, zero, suc, ◌≤◌, ◌+◌, ◌-◌, take, drop, Bool, true, false, List, [], ◌∷◌, ◌++◌, ◌||◌, length, map, refl, sym, ap, ◌∙◌, arith, append-nil, append_assoc}
 use Rattle.kex_model.specs.Answers.{Answer}
 use Rattle.kex_model.specs.Schedules.{StreamItem, Progress, Event, give, Settled}
 use Rattle.kex_pipe.specs.Events.{bytes_given, end_given}
@@ -93,5 +93,29 @@ piece-given gives ps before after h front part more joined next g =
       events = w.events;
       bytes = w.same_bytes ∙ bytes-more g.events part ∙ ap (λ z. z ++ part) g.bytes ∙ append_assoc (bytes_given h) front part ∙ ap (λ z. bytes_given h ++ z) joined;
       same_end = w.same_end ∙ end-open g.events part ∙ g.same_end;
+      stands_for = w.stands_for;
+    }
+
+take-take : {A : Type 0} (n m : ℕ) (xs : List A) → n ≤ m → take n (take m xs) ≡ take n xs
+take-take zero m xs le = refl
+take-take (suc n) zero xs le = absurd (omega arith)
+take-take (suc n) (suc m) [] le = refl
+take-take (suc n) (suc m) (x ∷ xs) le = ap (λ z. x ∷ z) (take-take n m xs (omega arith))
+
+-- so many of what lies between a front and a longer one
+pub front-some : (xs : List ℕ) (n m count : ℕ) → count ≤ m - n → take n xs ++ take count (take (m - n) (drop n xs)) ≡ take (n + count) xs
+front-some xs n m count le =
+    let e : n + count - n ≡ count = omega arith in
+    ap (λ z. take n xs ++ z) (take-take count (m - n) (drop n xs) le ∙ ap (λ z. take z (drop n xs)) (sym e)) ∙ front-more xs n (n + count) (omega arith)
+
+-- some bytes more were given, and worked off
+pub parts-given : {P : Type 0} (gives : P → List ℕ → Bool → Answer → Type 0) (ps : List P) (before mid after : List Event → Type 0) (h : List Event) (front part more : List ℕ) → front ++ part ≡ more → ((k : List Event) → before k → IsGiven mid part k) → ((k : List Event) → mid k → IsWorkedOff gives ps after k) → IsGiven before front h → IsGiven after more h
+parts-given gives ps before mid after h front part more joined next off g =
+    let r = next g.events g.stands_for in
+    let w = off r.events r.stands_for in
+    record {
+      events = w.events;
+      bytes = w.same_bytes ∙ r.bytes ∙ ap (λ z. z ++ part) g.bytes ∙ append_assoc (bytes_given h) front part ∙ ap (λ z. bytes_given h ++ z) joined;
+      same_end = w.same_end ∙ r.same_end ∙ g.same_end;
       stands_for = w.stands_for;
     }

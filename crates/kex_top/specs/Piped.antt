@@ -39,36 +39,36 @@ module _ {P : Type 0} (gives : P → List ℕ → Bool → Answer → Type 0) (p
 
 module _ {T : Type 0} (t : Ghosts T) where
   abbrev pub is_any_ended : AnyPipe T t → Bool
-  is_any_ended (Rounds pipe) = by_rounds.is_ended t pipe
+  is_any_ended (Rounds pipe length) = by_rounds.is_ended t pipe
   is_any_ended (Turns pipe sharing) = by_rounds.is_ended t pipe
   is_any_ended (Rings pipe work) = by_rings.rings_ended t pipe
 
   abbrev pub is_any_in_round : AnyPipe T t → Bool
-  is_any_in_round (Rounds pipe) = by_rounds.is_in_round t pipe
+  is_any_in_round (Rounds pipe length) = by_rounds.is_in_round t pipe
   is_any_in_round (Turns pipe sharing) = by_rounds.is_in_round t pipe
   is_any_in_round (Rings pipe work) = false
 
   abbrev pub is_any_spent : AnyPipe T t → Bool
-  is_any_spent (Rounds pipe) = by_rounds.is_spent t pipe
+  is_any_spent (Rounds pipe length) = by_rounds.is_spent t pipe
   is_any_spent (Turns pipe sharing) = by_rounds.is_spent t pipe
   is_any_spent (Rings pipe work) = by_rings.rings_spent t pipe
 
   -- the output that is in hand
   abbrev pub any_in_hand : AnyPipe T t → List ℕ
-  any_in_hand (Rounds pipe) = by_rounds.in_hand t pipe
+  any_in_hand (Rounds pipe length) = by_rounds.in_hand t pipe
   any_in_hand (Turns pipe sharing) = by_rounds.in_hand t pipe
   any_in_hand (Rings pipe work) = by_rings.rings_in_hand t pipe
 
   -- the pipe of stages with these plans has come by this schedule, and this was taken from its
   -- output
   abbrev pub AnyPipeStands : List t.Plan → AnyPipe T t → List Event → List ℕ → Type 0
-  AnyPipeStands plans (Rounds pipe) events taken = by_rounds.Stands t plans pipe events taken
+  AnyPipeStands plans (Rounds pipe length) events taken = by_rounds.Stands t plans pipe events taken
   AnyPipeStands plans (Turns pipe sharing) events taken = by_rounds.Stands t plans pipe events taken
   AnyPipeStands plans (Rings pipe work) events taken =
       by_rings.RingsStand t plans pipe events taken
 
   abbrev pub stages_of : AnyPipe T t → List T
-  stages_of (Rounds pipe) = map (λ s. s.staged.stage) pipe.seats.items
+  stages_of (Rounds pipe length) = map (λ s. s.staged.stage) pipe.seats.items
   stages_of (Turns pipe sharing) = map (λ s. s.staged.stage) pipe.seats.items
   stages_of (Rings pipe work) = map (λ s. s.seat.staged.stage) pipe.seats.items
 

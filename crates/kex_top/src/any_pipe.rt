@@ -10,9 +10,10 @@ ghost use Rattle.kex_top.specs.Piped.{AnyPipeStands, IsGiven, IsPipeSettled, IsW
 ghost use Rattle.kex_top.specs.Piped.{PipeStands, any_in_hand, is_any_ended, is_any_in_round};
 ghost use Rattle.kex_top.specs.Piped.{is_any_spent, plans_of};
 
+use crate::piece_length::PieceLength;
 use crate::pipeline::Limited;
 use crate::rings::RingWork;
-use crate::rounds::Pace;
+use crate::rounds::{MUCH, Pace};
 use crate::sharing::Sharing;
 use crate::{rings, rounds, turns};
 use kex_code::memory::Memory;
@@ -28,7 +29,7 @@ use std::thread::Threads;
 #[derive(Drop)]
 pub(crate) enum AnyPipe<T: Turn> {
     /// The stages work by rounds.
-    Rounds(Pipe<T>),
+    Rounds { pipe: Pipe<T>, length: PieceLength },
     /// The stages take turns in their order, and each stage's desks work on parts of what it is to
     /// read.
     Turns { pipe: Pipe<T>, sharing: Sharing },
@@ -51,7 +52,10 @@ impl<T: Turn + Drop> AnyPipe<T> {
         ensures fresh { IfOk result (λ pipe. PipeStands T.Turn pipe None) }
     {
         match rings {
-            None => Ok(AnyPipe::Rounds(Pipe::new(alloc, stages)?)),
+            None => Ok(AnyPipe::Rounds {
+                pipe: Pipe::new(alloc, stages)?,
+                length: PieceLength::new(MUCH),
+            }),
             Some(rings) => Ok(AnyPipe::Rings {
                 pipe: RingPipe::new(alloc, stages, rings.room)?,
                 work: RingWork::new(alloc),
@@ -91,7 +95,7 @@ impl<T: Turn + Drop> AnyPipe<T> {
         ensures wants { result ≢ Err PipeFault.Spent }
     {
         match self {
-            AnyPipe::Rounds(pipe) => pipe.give_end(),
+            AnyPipe::Rounds { pipe, .. } => pipe.give_end(),
             AnyPipe::Turns { pipe, .. } => pipe.give_end(),
             AnyPipe::Rings { pipe, .. } => pipe.give_end(),
         }
@@ -106,7 +110,7 @@ impl<T: Turn + Drop> AnyPipe<T> {
             → AnyPipeStands T.Turn ps self.new h (taken ++ out.new.items) }
     {
         match self {
-            AnyPipe::Rounds(pipe) => pipe.take_output_into(out),
+            AnyPipe::Rounds { pipe, .. } => pipe.take_output_into(out),
             AnyPipe::Turns { pipe, .. } => pipe.take_output_into(out),
             AnyPipe::Rings { pipe, .. } => pipe.take_output_into(out),
         }
@@ -120,7 +124,7 @@ impl<T: Turn + Drop> AnyPipe<T> {
             (taken ++ any_in_hand T.Turn self.now) (report_as result) }
     {
         match self {
-            AnyPipe::Rounds(pipe) => pipe.report(),
+            AnyPipe::Rounds { pipe, .. } => pipe.report(),
             AnyPipe::Turns { pipe, .. } => pipe.report(),
             AnyPipe::Rings { pipe, .. } => pipe.report(),
         }
@@ -147,7 +151,9 @@ pub(crate) fn give_front<R: Threads + Sync, T: Limited + Drop + Send, G: Gate + 
     ensures wants { result ≢ Err PipeFault.Spent }
 {
     match pipe {
-        AnyPipe::Rounds(pipe) => rounds::give_front(rt, pipe, gate, pace, bytes),
+        AnyPipe::Rounds { pipe, length } => {
+            rounds::give_front(rt, pipe, gate, pace, length, bytes)
+        }
         AnyPipe::Turns { pipe, sharing } => {
             turns::give_front(rt, pipe, gate, pace, sharing, bytes)
         }
@@ -171,7 +177,7 @@ pub(crate) fn work_off<R: Threads + Sync, T: Limited + Drop + Send, G: Gate + Sy
     ensures wants { result ≢ Err PipeFault.Spent }
 {
     match pipe {
-        AnyPipe::Rounds(pipe) => rounds::work_off(rt, pipe, gate),
+        AnyPipe::Rounds { pipe, .. } => rounds::work_off(rt, pipe, gate),
         AnyPipe::Turns { pipe, sharing } => {
             turns::work_off(rt, pipe, gate, sharing)?;
             Ok(())

@@ -1,5 +1,7 @@
 // How the input is cut into pieces that stages work off, one after the other.
-ghost use Rattle.std.specs.Prelude.{◌<◌, ◌≤◌};
+ghost use Rattle.std.specs.Prelude.{◌≡◌, ◌≢◌, ◌<◌, ◌≤◌, ◌*◌, ◌/◌, ◌⊎◌, max, min};
+ghost use Rattle.kex_top.specs.declared.piece_length.TheConstants.{FIRST};
+ghost use Rattle.kex_top.specs.declared.rounds.TheConstants.{MUCH};
 
 use crate::rounds::MUCH;
 
@@ -23,6 +25,8 @@ impl PieceLength {
     pub(crate) fn new(longest: usize) -> PieceLength
         requires first { 16384 ≤ longest }
         requires most { longest ≤ 1048576 }
+        ensures bytes { result.bytes ≡ FIRST }
+        ensures longest { result.longest ≡ longest }
     {
         PieceLength {
             bytes: FIRST,
@@ -32,6 +36,7 @@ impl PieceLength {
 
     /// The most bytes that are given at once.
     pub(crate) fn bytes(&self) -> usize
+        ensures value { result ≡ self.now.bytes }
         ensures some { 0 < result }
         ensures few { result ≤ 1048576 }
     {
@@ -40,7 +45,14 @@ impl PieceLength {
 
     /// Learns how many bytes were given, and how many at most lay before a stage for them or are
     /// output.
-    pub(crate) fn learn(&mut self, given: usize, most: usize) {
+    pub(crate) fn learn(&mut self, given: usize, most: usize)
+        ensures shorter { MUCH < most → self.new.bytes ≡ max (self.old.bytes / 2) FIRST }
+        ensures longer { most ≤ MUCH / 2 → given ≡ self.old.bytes
+            → self.new.bytes ≡ min (self.old.bytes * 2) self.old.longest }
+        ensures same { most ≤ MUCH → (MUCH / 2 < most) ⊎ (given ≢ self.old.bytes)
+            → self.new.bytes ≡ self.old.bytes }
+        ensures longest { self.new.longest ≡ self.old.longest }
+    {
         if most > MUCH {
             self.bytes = (self.bytes / 2).max(FIRST);
         } else if given == self.bytes && most <= MUCH / 2 {

@@ -5,6 +5,7 @@ ghost use Rattle.kex_pipe.specs.Standing.{Stands, is_ended, is_in_round, is_spen
 ghost use Rattle.kex_top.specs.Fronts.{IsFront};
 ghost use Rattle.kex_top.specs.Piped.{IsGiven, IsWorkedOff};
 
+use crate::piece_length::PieceLength;
 use kex_pipe::pipe::{Pipe, PipeFault};
 use kex_pipe::turn::Turn;
 use kex_ports::Gate;
@@ -14,14 +15,15 @@ use std::thread::Threads;
 /// So many bytes of output are worth a write before the block is worked off.
 pub(crate) const ENOUGH: usize = 65_536;
 
-/// So many bytes of output are written before more is given: what waits is worked off for that.
+/// Where so many bytes are output or wait before a stage, no more is given before what waits is
+/// worked off and written.
 pub(crate) const MUCH: usize = 1_048_576;
 
 /// When what the stages say goes out.
 #[derive(Clone, Copy, Debug, PartialEq, Eq)]
 pub(crate) enum Pace {
-    /// After a part of a block, where there is enough of it and nothing waits, or where there is
-    /// much of it; and when the block is worked off.
+    /// After a part of a block, where there is enough of it and nothing waits, or where much of it
+    /// is there or waits; and when the block is worked off.
     Parts,
     /// When a block is worked off.
     Blocks,
@@ -43,16 +45,25 @@ fn part_for(stages: u32, bytes: usize) -> usize
     }
 }
 
+// How many bytes at most wait before a stage.
+fn most_waiting<T: Turn + Drop>(pipe: &Pipe<T>) -> usize {
+    let mut most = 0;
+    'stages: for k in 0..pipe.count() {
+        most = pipe.waiting(k + 1).len().max(most);
+    }
+    most
+}
+
 /// Whether the output is to be written before more is given.
 pub(crate) fn is_due<T: Turn + Drop>(pipe: &Pipe<T>) -> bool {
     let length = pipe.output_length();
-    length >= MUCH || (length >= ENOUGH && pipe.settled())
+    length.max(most_waiting(pipe)) >= MUCH || (length >= ENOUGH && pipe.settled())
 }
 
-/// Gives bytes in parts, with a round after each: a stage works on one part while the next works on
-/// what came of the part before. Tells how many were given: all, or by parts as many as leave
-/// nothing waiting and enough output, or much output.
-pub(crate) fn give_front<R: Threads + Sync, T: Turn + Drop + Send, G: Gate + Sync>(
+// Gives a piece in parts, with a round after each: a stage works on one part while the next works
+// on what came of the part before. Tells how many bytes were given: all, or by parts as many as
+// leave nothing waiting and enough output, or much output or waiting.
+fn give_parts<R: Threads + Sync, T: Turn + Drop + Send, G: Gate + Sync>(
     rt: &R,
     pipe: &mut Pipe<T>,
     gate: &G,
@@ -66,6 +77,7 @@ pub(crate) fn give_front<R: Threads + Sync, T: Turn + Drop + Send, G: Gate + Syn
     ensures given { IfOk result (λ count. (ps : List T.Plan) (h : List Event) (taken : List ℕ)
         → Stands T.Turn ps pipe.old h taken
         → IsGiven (λ k. Stands T.Turn ps pipe.new k taken) (take count bytes.now) h) }
+    ensures ended { OnOk result (is_ended T.Turn pipe.new ≡ is_ended T.Turn pipe.old) }
     ensures closed { is_in_round T.Turn pipe.new ≡ false }
     ensures going { OnOk result (is_spent T.Turn pipe.new ≡ false) }
     ensures wants { result ≢ Err PipeFault.Spent }
@@ -96,6 +108,7 @@ pub(crate) fn work_off<R: Threads + Sync, T: Turn + Drop + Send, G: Gate + Sync>
     ensures works { OnOk result ((ps : List T.Plan) (h : List Event) (taken : List ℕ)
         → Stands T.Turn ps pipe.old h taken
         → IsWorkedOff T.gives ps (λ k. Stands T.Turn ps pipe.new k taken) h) }
+    ensures ended { OnOk result (is_ended T.Turn pipe.new ≡ is_ended T.Turn pipe.old) }
     ensures closed { is_in_round T.Turn pipe.new ≡ false }
     ensures going { OnOk result (is_spent T.Turn pipe.new ≡ false) }
     ensures wants { result ≢ Err PipeFault.Spent }
@@ -108,4 +121,40 @@ pub(crate) fn work_off<R: Threads + Sync, T: Turn + Drop + Send, G: Gate + Sync>
         round(rt, pipe, gate)?;
     }
     Ok(())
+}
+
+/// Gives bytes in pieces, each of which the stages work off. Tells how many were given: all, or by
+/// parts as many as leave enough output.
+pub(crate) fn give_front<R: Threads + Sync, T: Turn + Drop + Send, G: Gate + Sync>(
+    rt: &R,
+    pipe: &mut Pipe<T>,
+    gate: &G,
+    pace: Pace,
+    length: &mut PieceLength,
+    bytes: &[u8],
+) -> Result<usize, PipeFault>
+    requires unended { is_ended T.Turn pipe.old ≡ false }
+    requires closed { is_in_round T.Turn pipe.old ≡ false }
+    requires going { is_spent T.Turn pipe.old ≡ false }
+    ensures front { IfOk result (λ count. IsFront pace bytes.now count) }
+    ensures given { IfOk result (λ count. (ps : List T.Plan) (h : List Event) (taken : List ℕ)
+        → Stands T.Turn ps pipe.old h taken
+        → IsGiven (λ k. Stands T.Turn ps pipe.new k taken) (take count bytes.now) h) }
+    ensures closed { is_in_round T.Turn pipe.new ≡ false }
+    ensures going { OnOk result (is_spent T.Turn pipe.new ≡ false) }
+    ensures wants { result ≢ Err PipeFault.Spent }
+{
+    let mut given = 0;
+    'pieces: while given < bytes.len() {
+        let end = bytes.len().min(given + length.bytes());
+        let count = give_parts(rt, pipe, gate, pace, &bytes[given..end])?;
+        let waiting = most_waiting(pipe);
+        work_off(rt, pipe, gate)?;
+        length.learn(count, pipe.output_length().max(waiting));
+        given += count;
+        if pace == Pace::Parts && is_due(pipe) {
+            return Ok(given);
+        }
+    }
+    Ok(given)
 }

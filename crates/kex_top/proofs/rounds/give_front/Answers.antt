@@ -1,13 +1,11 @@
-use Rattle.std.proofs.Common.{rules, ◌++◌, ◌∷◌, [], ◌∙◌, ◌-◌, ◌≤◌, ℕ, List, take, drop, arith, length}
-use Rattle.std.specs.List.{range_with_len}
-use Rattle.std.proofs.lemmas.List.Sorted.{IsPermutation-refl}
-use Rattle.kex_model.specs.Schedules.{give}
-use Rattle.kex_pipe.specs.Standing.{stage_count}
-use Rattle.kex_top.proofs.StageRounds.{none-given, part-given, front-more}
+use Rattle.std.proofs.Common.{rules, ◌≡◌, ◌<◌, ◌≤◌, ◌+◌, ◌-◌, ◌∙◌, ℕ, List, take, drop, arith, length}
+use Rattle.std.proofs.lemmas.List.{length-drop, length-take}
+use Rattle.kex_pipe.specs.Standing.{Stands}
+use Rattle.kex_top.proofs.StageRounds.{none-given, parts-given, front-some}
 use Rattle.kex_top.proofs.rounds.give_front.Goals as goal
 
-pub parts-init : goal.parts-init
-parts-init g c =
+pub pieces-init : goal.pieces-init
+pieces-init g c =
     let z = c.requires in
     record {
       within = omega arith;
@@ -17,36 +15,35 @@ parts-init g c =
       going = c.requires.going;
     }
 
-pub parts-preserved : goal.parts-preserved
-parts-preserved g c =
+pub pieces-preserved : goal.pieces-preserved
+pieces-preserved g c =
     let t = g.T.Turn in
-    let l = c.parts in
-    let order = range_with_len 0 (stage_count t c.give.new.self) in
+    let l = c.pieces in
     let bytes = c.args.bytes.now in
     let end : ℕ = c.min-end.result in
-    let part : List ℕ = take (end - l.given) (drop l.given bytes) in
-    let past : l.given ≤ end = omega (arith, c.min-end.ensures, l.invariant.within) in
-    let within : end ≤ length bytes = omega (arith, c.min-end.ensures) in
+    let count : ℕ = c.in_ok-count.count in
+    let piece : List ℕ = take (end - l.given) (drop l.given bytes) in
+    let long : length piece ≤ end - l.given = omega (arith, length-take (end - l.given) (drop l.given bytes)) in
+    let some : count ≤ end - l.given = omega (arith, long, c.in_ok-count.ensures.front.within) in
     record {
-      within = within;
+      within = omega (arith, c.min-end.ensures, l.invariant.within, some);
       given = λ ps h taken s.
-          part-given t (take l.given bytes) part (take end bytes) c.give.new.self.seats.items order ps h taken l.pipe c.round.new.pipe (front-more bytes l.given end past)
-          (λ k st. c.in_ok-round.ensures.stands ps (k ++ give part ∷ []) taken order (c.in_ok-give.ensures.stands ps k taken st) (IsPermutation-refl order))
-          (l.invariant.given ps h taken s);
-      unended = c.round.ensures.ended ∙ c.give.ensures.ended ∙ l.invariant.unended;
-      closed = c.round.ensures.closed;
+          parts-given t.gives ps (λ k. Stands t ps l.pipe k taken) (λ k. Stands t ps c.give_parts.new.pipe k taken) (λ k. Stands t ps c.work_off.new.pipe k taken) h (take l.given bytes) (take count piece) (take (l.given + count) bytes) (front-some bytes l.given end count some)
+          (λ k st. c.in_ok-count.ensures.given ps k taken st) (λ k st. c.in_ok-work_off.ensures.works ps k taken st) (l.invariant.given ps h taken s);
+      unended = c.in_ok-work_off.ensures.ended ∙ c.in_ok-count.ensures.ended ∙ l.invariant.unended;
+      closed = c.work_off.ensures.closed;
       going = search rules;
     }
 
 pub returns-then-is_due-clause-given : goal.returns-then-is_due-clause-given
 returns-then-is_due-clause-given g c = λ ps h taken s.
     let t = g.T.Turn in
-    let l = c.parts in
-    let order = range_with_len 0 (stage_count t c.give.new.self) in
+    let l = c.pieces in
     let bytes = c.args.bytes.now in
     let end : ℕ = c.min-end.result in
-    let part : List ℕ = take (end - l.given) (drop l.given bytes) in
-    let past : l.given ≤ end = omega (arith, c.min-end.ensures, l.invariant.within) in
-    part-given t (take l.given bytes) part (take end bytes) c.give.new.self.seats.items order ps h taken l.pipe c.round.new.pipe (front-more bytes l.given end past)
-    (λ k st. c.in_ok-round.ensures.stands ps (k ++ give part ∷ []) taken order (c.in_ok-give.ensures.stands ps k taken st) (IsPermutation-refl order))
-    (l.invariant.given ps h taken s)
+    let count : ℕ = c.in_ok-count.count in
+    let piece : List ℕ = take (end - l.given) (drop l.given bytes) in
+    let long : length piece ≤ end - l.given = omega (arith, length-take (end - l.given) (drop l.given bytes)) in
+    let some : count ≤ end - l.given = omega (arith, long, c.in_ok-count.ensures.front.within) in
+    parts-given t.gives ps (λ k. Stands t ps l.pipe k taken) (λ k. Stands t ps c.give_parts.new.pipe k taken) (λ k. Stands t ps c.work_off.new.pipe k taken) h (take l.given bytes) (take count piece) (take (l.given + count) bytes) (front-some bytes l.given end count some)
+    (λ k st. c.in_ok-count.ensures.given ps k taken st) (λ k st. c.in_ok-work_off.ensures.works ps k taken st) (l.invariant.given ps h taken s)

@@ -4,11 +4,11 @@ use Rattle.kex_pipe.specs.Standing.{Stands, is_ended, is_in_round, is_spent}
 use Rattle.kex_top.specs.Piped.{IsGiven}
 use Rattle.kex_top.proofs.rounds.give_front.Given as goal
 
-abbrev pub decreases-parts : goal.decreases-parts
-decreases-parts g l = length l.fn.bytes - l.given
+abbrev pub decreases-pieces : goal.decreases-pieces
+decreases-pieces g l = length l.fn.bytes - l.given
 
-abbrev pub invariant-parts : goal.invariant-parts
-invariant-parts g l = record {
+abbrev pub invariant-pieces : goal.invariant-pieces
+invariant-pieces g l = record {
   within : l.given ≤ length l.fn.bytes;
   given : (ps : List g.T.Turn.Plan) (h : List Event) (taken : List ℕ) → Stands g.T.Turn ps l.fn.pipe h taken → IsGiven (λ k. Stands g.T.Turn ps l.pipe k taken) (take l.given l.fn.bytes) h;
   unended : is_ended g.T.Turn l.pipe ≡ false;

@@ -15,6 +15,7 @@ rounds-preserved g c =
           subst (λ n. Rounding t n ps h taken c.round.new.pipe) (let e : suc l._round ≡ l._round + 1 = omega arith in e)
           (one-round t l._round l.pipe.seats.items order ps h taken l.pipe c.round.new.pipe (λ k st done. c.in_ok-round.ensures.settles ps k taken order l._round st (IsPermutation-refl order) done) (l.invariant.rounds ps h taken s));
       same_count = c.round.ensures.count ∙ l.invariant.same_count;
+      ended = c.round.ensures.ended ∙ l.invariant.ended;
       closed = c.round.ensures.closed;
       going = search rules;
     }

@@ -6,12 +6,12 @@ use Rattle.kex_top.proofs.any_pipe.AnyPipe.new.Goals as goal
 
 pub returns-in_ok-new-in-None-clause-plans : goal.returns-in_ok-new-in-None-clause-plans
 returns-in_ok-new-in-None-clause-plans g c =
-    same-plans g.T.Turn (map g.T.Turn.plan c.args.stages.items) (Rounds c.in_ok-new-in-None.field-0) [] [] c.in_ok-new-in-None.ensures.stands
+    same-plans g.T.Turn (map g.T.Turn.plan c.args.stages.items) (Rounds c.in_ok-new-in-None.field-0 c.new-in-None.result) [] [] c.in_ok-new-in-None.ensures.stands
 
 pub returns-in_ok-new-in-None-clause-fresh : goal.returns-in_ok-new-in-None-clause-fresh
 returns-in_ok-new-in-None-clause-fresh g c =
     let long = length-map c.args.stages.items g.T.Turn.plan in
-    fresh-pipe g.T.Turn (map g.T.Turn.plan c.args.stages.items) (Rounds c.in_ok-new-in-None.field-0) (omega (arith, long, c.args.stages.ok.0, c.requires.some)) c.in_ok-new-in-None.ensures.stands
+    fresh-pipe g.T.Turn (map g.T.Turn.plan c.args.stages.items) (Rounds c.in_ok-new-in-None.field-0 c.new-in-None.result) (omega (arith, long, c.args.stages.ok.0, c.requires.some)) c.in_ok-new-in-None.ensures.stands
 
 pub returns-in_ok-new-in-Some-clause-plans : goal.returns-in_ok-new-in-Some-clause-plans
 returns-in_ok-new-in-Some-clause-plans g c =
