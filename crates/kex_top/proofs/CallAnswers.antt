@@ -31,7 +31,7 @@ use Rattle.kex_compile.specs.declared.limits.Limits.{Limits}
 use Rattle.kex_compile.specs.declared.refusal.CompileRefusal.{CompileRefusal}
 use Rattle.kex_words.specs.Gains.{StreamChange}
 use Rattle.kex_words.specs.declared.refusals.Refusal.{Refusal}
-use Rattle.kex_words.specs.Form.{most_input}
+use Rattle.kex_words.specs.Words.{most_input}
 use Rattle.kex_words.specs.Lines.{counts_line, trial_line}
 use Rattle.kex_words.specs.declared.counts.TrialCounts.{TrialCounts}
 use Rattle.kex_top.specs.Commands.{Counted, Performs, TellsBytes, calls_of, taken_for, told_text}

@@ -18,7 +18,7 @@ use Rattle.kex_stage.specs.Stages.{StagePlan, Gives}
 use Rattle.kex_each.specs.Answers.{AnswersLine, AnswersLines, PlansAnswerLines, answer_text}
 use Rattle.kex_each.specs.Lines.{begun_behind, lines_behind, lines_of, line_if_some}
 use Rattle.kex_each.proofs.LineLists.{begins_lines, by_pieces}
-use Rattle.kex_words.specs.Form.{most_input}
+use Rattle.kex_words.specs.Words.{most_input}
 use Rattle.kex_words.specs.Gains.{StreamChange, change}
 use Rattle.kex_top.specs.Answer.{Said}
 use Rattle.kex_top.specs.ByLines.{EndsByLines, GoesPast, NodesSayLines, LinesSay, PumpedByLines, RanByLines}

@@ -9,7 +9,7 @@ use Rattle.kex_compile.specs.Stages.{roots_of}
 use Rattle.kex_each.specs.Answers.{AnswersLines}
 use Rattle.kex_each.specs.Lines.{lines_of}
 use Rattle.kex_stage.specs.Stages.{StagePlan, Gives}
-use Rattle.kex_words.specs.Form.{most_input}
+use Rattle.kex_words.specs.Words.{most_input}
 use Rattle.kex_words.specs.Gains.{StreamChange}
 use Rattle.kex_top.specs.Answer.{Said}
 use Rattle.kex_top.specs.Run.{EndsAs, WritesAll, is_whole}

@@ -22,7 +22,7 @@ use crate::start::{StartError, status_of};
 use crate::status::Status;
 use crate::trial::answer_trial;
 use kex_ports::{Gate, Shelf, Sink, Source};
-use kex_words::{Command, read, tell};
+use kex_words::{Command, Stream, read, tell};
 use std::alloc::Global;
 use std::thread::Threads;
 
@@ -52,11 +52,14 @@ fn answer_command<R: Threads + Sync, G: Gate + Sync, H: Shelf, S: Source, K: Sin
         × (calls.writes ≡ false → output.new ≡ output.old) }
 {
     match command {
-        Command::Stream {
-            mode,
-            program,
-            limits,
-        } => answer_stream(rt, gate, alloc, mode, program, limits, shelf, input, output),
+        Command::Stream(stream) => {
+            let Stream {
+                mode,
+                program,
+                limits,
+            } = stream;
+            answer_stream(rt, gate, alloc, mode, program, limits, shelf, input, output)
+        }
         Command::Check { program, states } => answer_check(alloc, program, states, shelf, output),
         Command::Each { program, limits } => {
             answer_each(rt, gate, alloc, program, limits, shelf, input, output)

@@ -5,7 +5,7 @@ ghost use Rattle.kex_ports.specs.Named.{Texts};
 ghost use Rattle.kex_ports.specs.Reads.{Reads};
 ghost use Rattle.kex_stage.specs.Plans.{teller_of};
 ghost use Rattle.kex_stage.specs.declared.plan.Telling.TheVariants as telling;
-ghost use Rattle.kex_words.specs.Form.{most_input};
+ghost use Rattle.kex_words.specs.Words.{most_input};
 ghost use Rattle.kex_words.specs.Gains.{StreamChange, change_of};
 ghost use Rattle.kex_words.specs.Lines.{trial_line};
 ghost use Rattle.kex_words.specs.Words.{room_of};

@@ -8,7 +8,7 @@ use Rattle.clap.specs.declared.parser.matches.ArgMatches.{ArgMatches}
 use Rattle.clap.specs.Values.{kind_of}
 use Rattle.clap.specs.declared.error.Error.{Error}
 use Rattle.clap.specs.declared.error.kind.ErrorKind.TheVariants.{OutOfMemory}
-use Rattle.kex_words.specs.Form.{kex_app}
+use Rattle.kex_words.specs.Words.{kex_app}
 use Rattle.kex_words.specs.Words.{asked_in, asked_of}
 
 is-simple : is_simple kex_app ≡ true

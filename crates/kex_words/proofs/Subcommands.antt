@@ -9,7 +9,7 @@ use Rattle.clap.specs.Facts.{explicit_source}
 use Rattle.clap.specs.Faults.{check_fault, defaults_fault, level_fault, settle_fault, walk_fault}
 use Rattle.clap.specs.Takes.{is_given}
 use Rattle.clap.specs.Walk.{Held, Names, answers_to, finished, is_empty, settled, stop_after, walk, walk_from}
-use Rattle.kex_words.specs.Form.{kex_app}
+use Rattle.kex_words.specs.Words.{kex_app}
 use Rattle.kex_words.specs.Words.{Asked, asked_by, asked_in, asked_of, is_in_form}
 use Rattle.kex_words.specs.Subcommands.{AsksBySubcommand, IsOneOf, subcommands}
 

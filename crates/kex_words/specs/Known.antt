@@ -1,5 +1,6 @@
 -- What some words ask for.
-use Rattle.std.specs.Prelude.{◌≡◌, ◌==◌, ℕ, List, [], ◌∷◌, Bool, true, false, Some, None, is_none, codes}
+use Rattle.std.specs.Prelude.{◌≡◌, ◌==◌, ◌++◌, ℕ, List, [], ◌∷◌, Bool, true, false, Some, None}
+use Rattle.std.specs.Prelude.{codes, is_none, map}
 use Rattle.std.specs.List.{list_all, slice_split}
 use Prim.Native.String.{String}
 use Rattle.clap.specs.Words.{Text}
@@ -26,9 +27,9 @@ over_rings room = record usual_reach { rings = Some room }
 abbrev pub by_workers : ℕ → Reach
 by_workers workers = record usual_reach { workers = workers }
 
--- the line asks for this
-abbrev pub LineAsks : String → Asked → Type 0
-LineAsks line what = asked_of (words_of line) ≡ Some what
+-- the lines ask for these
+abbrev pub LinesAsk : List (String × Asked) → Type 0
+LinesAsk rows = map (λ row. asked_of (words_of row.0)) rows ≡ map (λ row. Some row.1) rows
 
 -- the line is out of form
 abbrev pub is_usage : String → Bool
@@ -41,71 +42,68 @@ AreUsage lines = list_all is_usage lines ≡ true
 abbrev pub to_run : String → Reach → Asked
 to_run name r = ToStream (running 4096 false) (codes name) r
 
-pub record ReadsRun : Type 0 where
-  pub plain : LineAsks "kex run p" (to_run "p" usual_reach)
-  pub with_options : LineAsks "kex run p --max-input 3 --block 1" (to_run "p" (reach 3 1))
-  pub options_first
-      : LineAsks "kex run --block=1048576 --max-input=0 p" (to_run "p" (reach 0 1048576))
-  pub states : LineAsks "kex run p --states 7 --block 1"
-      (ToStream (running 7 false) (codes "p") (reach 281474976710656 1))
-  pub largest : LineAsks "kex run p --max-input 281474976710656 --states 1048576"
-      (ToStream (running 1048576 false) (codes "p") usual_reach)
-  pub rings : LineAsks "kex run p --rings 1" (to_run "p" (over_rings 1))
-  pub largest_rings : LineAsks "kex run --rings=1048576 p" (to_run "p" (over_rings 1048576))
-  pub fewest_workers : LineAsks "kex run --workers=1 p" (to_run "p" usual_reach)
-  pub most_workers : LineAsks "kex run p --workers 64" (to_run "p" (by_workers 64))
-  pub rings_and_workers : LineAsks "kex run p --workers 2 --rings 3"
-      (to_run "p" (record (over_rings 3) { workers = 2 }))
-  pub optimal : LineAsks "kex run p --optimal" (ToStream (running 4096 true) (codes "p") usual_reach)
-  pub optimal_states : LineAsks "kex run --optimal p --states 7"
-      (ToStream (running 7 true) (codes "p") usual_reach)
-  pub optimal_workers : LineAsks "kex run --optimal p --workers 2"
-      (ToStream (running 4096 true) (codes "p") (by_workers 2))
-  -- as `clap` reads numbers
-  pub plus_and_zeros : LineAsks "kex run p --max-input +3 --block 007" (to_run "p" (reach 3 7))
-  pub empty_name : LineAsks "kex run " (to_run "" usual_reach)
-  pub dash_for_a_name : LineAsks "kex run -" (to_run "-" usual_reach)
-  pub name_behind_dashes : LineAsks "kex run -- --block" (to_run "--block" usual_reach)
-  pub dashes_behind_name : LineAsks "kex run --block 3 p --" (to_run "p" (reach 281474976710656 3))
-  pub command_for_a_name : LineAsks "kex run check" (to_run "check" usual_reach)
-  pub help_for_a_name : LineAsks "kex run help" (to_run "help" usual_reach)
-  pub file_of_words : LineAsks "kex run @p" (to_run "@p" usual_reach)
-  -- the first word is the program's own name, whatever it is
-  pub own_name : LineAsks "--help run p" (to_run "p" usual_reach)
+abbrev pub run_lines : List (String × Asked)
+run_lines = ("kex run p", to_run "p" usual_reach)
+    ∷ ("kex run p --max-input 3 --block 1", to_run "p" (reach 3 1))
+    ∷ ("kex run --block=1048576 --max-input=0 p", to_run "p" (reach 0 1048576))
+    ∷ ("kex run p --states 7 --block 1",
+        ToStream (running 7 false) (codes "p") (reach 281474976710656 1))
+    ∷ ("kex run p --max-input 281474976710656 --states 1048576",
+        ToStream (running 1048576 false) (codes "p") usual_reach)
+    ∷ ("kex run p --rings 1", to_run "p" (over_rings 1))
+    ∷ ("kex run --rings=1048576 p", to_run "p" (over_rings 1048576))
+    ∷ ("kex run --workers=1 p", to_run "p" usual_reach)
+    ∷ ("kex run p --workers 64", to_run "p" (by_workers 64))
+    ∷ ("kex run p --workers 2 --rings 3", to_run "p" (record (over_rings 3) { workers = 2 }))
+    ∷ ("kex run p --optimal", ToStream (running 4096 true) (codes "p") usual_reach)
+    ∷ ("kex run --optimal p --states 7", ToStream (running 7 true) (codes "p") usual_reach)
+    ∷ ("kex run --optimal p --workers 2", ToStream (running 4096 true) (codes "p") (by_workers 2))
+    ∷ []
 
-pub record ReadsCheck : Type 0 where
-  pub plain : LineAsks "kex check p" (ToCheck (codes "p") 4096)
-  pub states : LineAsks "kex check --states 1 p" (ToCheck (codes "p") 1)
-  pub empty_name : LineAsks "kex check " (ToCheck [] 4096)
-  pub name_behind_dashes : LineAsks "kex check -- --states" (ToCheck (codes "--states") 4096)
-  pub command_for_a_name : LineAsks "kex check run" (ToCheck (codes "run") 4096)
+-- numbers are read as `clap` reads them, and names may look like other words
+abbrev pub odd_lines : List (String × Asked)
+odd_lines = ("kex run p --max-input +3 --block 007", to_run "p" (reach 3 7))
+    ∷ ("kex run ", to_run "" usual_reach) ∷ ("kex run -", to_run "-" usual_reach)
+    ∷ ("kex run -- --block", to_run "--block" usual_reach)
+    ∷ ("kex run --block 3 p --", to_run "p" (reach 281474976710656 3))
+    ∷ ("kex run check", to_run "check" usual_reach) ∷ ("kex run help", to_run "help" usual_reach)
+    ∷ ("kex run @p", to_run "@p" usual_reach)
+    -- the first word is the program's own name, whatever it is
+    ∷ ("--help run p", to_run "p" usual_reach) ∷ []
+
+abbrev pub check_lines : List (String × Asked)
+check_lines = ("kex check p", ToCheck (codes "p") 4096)
+    ∷ ("kex check --states 1 p", ToCheck (codes "p") 1) ∷ ("kex check ", ToCheck [] 4096)
+    ∷ ("kex check -- --states", ToCheck (codes "--states") 4096)
+    ∷ ("kex check run", ToCheck (codes "run") 4096) ∷ []
 
 -- the commands on a program of one stage
-pub record ReadsSingles : Type 0 where
-  pub code : LineAsks "kex code p" (ToStream coding (codes "p") usual_reach)
-  pub act : LineAsks "kex act p --block 7" (ToStream acting (codes "p") (reach 281474976710656 7))
-  pub test : LineAsks "kex test --max-input 3 p" (ToStream testing (codes "p") (reach 3 65536))
+abbrev pub single_lines : List (String × Asked)
+single_lines = ("kex code p", ToStream coding (codes "p") usual_reach)
+    ∷ ("kex act p --block 7", ToStream acting (codes "p") (reach 281474976710656 7))
+    ∷ ("kex test --max-input 3 p", ToStream testing (codes "p") (reach 3 65536)) ∷ []
 
-pub record ReadsTrial : Type 0 where
-  pub plain : LineAsks "kex trial 2" (ToTry 2 65536 None 1)
-  pub none : LineAsks "kex trial --block 1 0" (ToTry 0 1 None 1)
-  pub most : LineAsks "kex trial 1000000" (ToTry 1000000 65536 None 1)
-  pub rings : LineAsks "kex trial 2 --rings 64" (ToTry 2 65536 (Some 64) 1)
-  pub workers : LineAsks "kex trial --workers=64 2" (ToTry 2 65536 None 64)
-  pub rings_and_workers
-      : LineAsks "kex trial 2 --rings 4096 --workers 2" (ToTry 2 65536 (Some 4096) 2)
+abbrev pub trial_lines : List (String × Asked)
+trial_lines = ("kex trial 2", ToTry 2 65536 None 1) ∷ ("kex trial --block 1 0", ToTry 0 1 None 1)
+    ∷ ("kex trial 1000000", ToTry 1000000 65536 None 1)
+    ∷ ("kex trial 2 --rings 64", ToTry 2 65536 (Some 64) 1)
+    ∷ ("kex trial --workers=64 2", ToTry 2 65536 None 64)
+    ∷ ("kex trial 2 --rings 4096 --workers 2", ToTry 2 65536 (Some 4096) 2) ∷ []
 
 -- the commands on table files
-pub record ReadsTables : Type 0 where
-  pub compile : LineAsks "kex compile p" (ToCompile (codes "p") 4096)
-  pub compile_states : LineAsks "kex compile --states 1 p" (ToCompile (codes "p") 1)
-  pub exec : LineAsks "kex exec t" (ToExec (codes "t") usual_reach)
-  pub exec_limits : LineAsks "kex exec --block 1 t --max-input 3" (ToExec (codes "t") (reach 3 1))
+abbrev pub table_lines : List (String × Asked)
+table_lines = ("kex compile p", ToCompile (codes "p") 4096)
+    ∷ ("kex compile --states 1 p", ToCompile (codes "p") 1)
+    ∷ ("kex exec t", ToExec (codes "t") usual_reach)
+    ∷ ("kex exec --block 1 t --max-input 3", ToExec (codes "t") (reach 3 1)) ∷ []
 
-pub record ReadsEach : Type 0 where
-  pub plain : LineAsks "kex each p" (ToEach (codes "p") 4096 281474976710656 1)
-  pub with_options : LineAsks "kex each --workers 64 p --states 7 --max-input=0"
-      (ToEach (codes "p") 7 0 64)
+abbrev pub each_lines : List (String × Asked)
+each_lines = ("kex each p", ToEach (codes "p") 4096 281474976710656 1)
+    ∷ ("kex each --workers 64 p --states 7 --max-input=0", ToEach (codes "p") 7 0 64) ∷ []
+
+abbrev pub known_lines : List (String × Asked)
+known_lines = run_lines ++ odd_lines ++ check_lines ++ single_lines ++ trial_lines ++ table_lines
+    ++ each_lines
 
 pub record RefusesWords : Type 0 where
   pub no_words : asked_of [] ≡ None
@@ -165,10 +163,5 @@ pub record RefusesWords : Type 0 where
       ∷ "kex trial 1 --workers two" ∷ [])
 
 pub record ReadsWords : Type 0 where
-  pub run : ReadsRun
-  pub check : ReadsCheck
-  pub singles : ReadsSingles
-  pub trial : ReadsTrial
-  pub tables : ReadsTables
-  pub each : ReadsEach
+  pub in_form : LinesAsk known_lines
   pub out_of_form : RefusesWords

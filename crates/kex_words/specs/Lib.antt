@@ -1,4 +1,3 @@
-pub mod Form
 pub mod Words
 pub mod Known
 pub mod Subcommands

@@ -1,6 +1,7 @@
 -- The line that a call leaves in the notes, and the lines of a check and of a trial.
 use Rattle.std.specs.Prelude.{ℕ, List, [], ◌∷◌, Bool, codes, decimal, if◌then◌else◌}
 use Rattle.std.specs.List.{concat}
+use Rattle.kex_words.specs.Words.{usage_line}
 use Rattle.kex_words.specs.declared.counts.Counts.{Counts}
 use Rattle.kex_words.specs.declared.counts.TrialCounts.{TrialCounts}
 use Rattle.kex_words.specs.declared.notes.Note.{Note}
@@ -58,15 +59,6 @@ placed_line (Stage stage) title =
 
 abbrev pub refused_line : Refusal → List ℕ
 refused_line refusal = placed_line refusal.place (title_of refusal.rule)
-
--- the line of words that are out of form
-abbrev pub usage_line : List ℕ
-usage_line = concat (codes "usage: kex run|check|code|act|test PROGRAM [--states N]"
-    ∷ codes " [--max-input N] [--block N] [--rings N] [--workers N] [--optimal]"
-    ∷ codes " | kex trial N [--block N] [--rings N] [--workers N]"
-    ∷ codes " | kex compile PROGRAM [--states N]"
-    ∷ codes " | kex exec TABLE [--max-input N] [--block N]"
-    ∷ codes " | kex each PROGRAM [--states N] [--max-input N] [--workers N]\n" ∷ [])
 
 abbrev pub line_of : Note → List ℕ
 line_of Nothing = []

@@ -1,17 +1,16 @@
 -- Words in form name a subcommand, and ask for what it does.
-use Rattle.std.specs.Prelude.{◌≡◌, ◌⊎◌, List, [], ◌∷◌, Some, true, codes}
+use Rattle.std.specs.Prelude.{◌≡◌, ◌⊎◌, List, [], ◌∷◌, Some, map, true}
 use Rattle.clap.specs.Words.{Row, Text, subcommand_of}
-use Rattle.kex_words.specs.Form.{kex_app}
+use Rattle.kex_words.specs.Words.{kex_app}
 use Rattle.kex_words.specs.Words.{Asked, asked_by, asked_of, is_in_form}
 
 -- the words name this subcommand, and these are the matches of its arguments
 abbrev pub NamesSubcommand : List Text → Text → List Row → Type 0
 NamesSubcommand words name rows = subcommand_of kex_app words ≡ Some (name, rows)
 
+-- the names in the form of the command line, as `run`
 abbrev pub subcommands : List Text
-subcommands =
-    codes "run" ∷ codes "check" ∷ codes "code" ∷ codes "act" ∷ codes "test" ∷ codes "trial"
-    ∷ codes "compile" ∷ codes "exec" ∷ codes "each" ∷ []
+subcommands = map (λ command. command.name) kex_app.subs
 
 abbrev pub IsOneOf : List Text → Text → Type 0
 IsOneOf [] name = ⊥

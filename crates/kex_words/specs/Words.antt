@@ -1,13 +1,15 @@
--- What the words of a command line ask for.
-use Rattle.std.specs.Prelude.{[], nat_le, ◌&&◌, ℕ, Bool, false, List, Option, Some, None, codes}
-use Rattle.std.specs.Prelude.{option_and_then, unwrap_or, if◌then◌else◌}
+-- The command line: its form, as `clap` sees it, and what words in form ask for.
+use Rattle.std.specs.Prelude.{[], ◌∷◌, nat_le, ◌&&◌, ℕ, Bool, false, true, List, Option, Some, None}
+use Rattle.std.specs.Prelude.{codes, option_and_then, unwrap_or, if◌then◌else◌}
+use Rattle.std.specs.List.{concat}
 use Rattle.std.specs.Str.{bytes_eq}
 use Rattle.std.specs.Str.Parse.{digits_value, without_leading_plus}
-use Rattle.clap.specs.Words.{Row, Text, first_of, one_of, subcommand_of, fault_of}
+use Rattle.clap.specs.Words.{App, Row, Rule, Text, new_app, new_rule, with_rule, with_subcommand}
+use Rattle.clap.specs.Words.{first_of, one_of, subcommand_of, fault_of}
 use Rattle.clap.specs.Walk.{is_empty}
 use Rattle.clap.specs.ValueTests.{is_unsigned_in}
-use Rattle.kex_words.specs.Form.{kex_app, most_block, most_input, most_lines, most_room}
-use Rattle.kex_words.specs.Form.{most_states, most_workers}
+use Rattle.clap.specs.declared.builder.action.ArgAction.TheVariants.{SetTrue}
+use Rattle.clap.specs.declared.builder.value_parser.ValueParser.TheVariants as vp
 use Rattle.kex_words.specs.declared.asked.RunLimits.{RunLimits}
 use Rattle.kex_words.specs.declared.asked.Rings.{Rings}
 use Rattle.kex_words.specs.declared.asked.Command.{Command}
@@ -15,6 +17,139 @@ use Rattle.kex_words.specs.declared.asked.Command.TheVariants.{Stream, Check, Co
 use Rattle.kex_words.specs.declared.asked.Command.TheVariants.{Exec, Each, Trial}
 use Rattle.kex_words.specs.declared.asked.Mode.{Mode as Moded}
 use Rattle.kex_words.specs.declared.asked.Mode.TheVariants as of_mode
+
+-- ---- the form
+
+-- the most bytes that a stage takes, and that one read asks for
+abbrev pub most_input : ℕ
+most_input = 281474976710656
+
+abbrev pub most_block : ℕ
+most_block = 1048576
+
+abbrev pub program_rule : Rule
+program_rule = record (new_rule (codes "PROGRAM")) { required = true }
+
+abbrev pub table_rule : Rule
+table_rule = record (new_rule (codes "TABLE")) { required = true }
+
+-- an option that takes a number within the bounds
+abbrev pub number_rule : Text → ℕ → ℕ → Text → Rule
+number_rule name low high default = record (new_rule name) {
+  long = Some name;
+  parser = Some (vp.Unsigned low high);
+  defaults = default ∷ [];
+}
+
+abbrev pub max_input_rule : Rule
+max_input_rule = number_rule (codes "max-input") 0 most_input (codes "281474976710656")
+
+abbrev pub block_rule : Rule
+block_rule = number_rule (codes "block") 1 most_block (codes "65536")
+
+abbrev pub most_states : ℕ
+most_states = 1048576
+
+abbrev pub most_lines : ℕ
+most_lines = 1000000
+
+abbrev pub states_rule : Rule
+states_rule = number_rule (codes "states") 1 most_states (codes "4096")
+
+abbrev pub most_room : ℕ
+most_room = 1048576
+
+-- where it isn't given there are no rings
+abbrev pub rings_rule : Rule
+rings_rule = record (new_rule (codes "rings"))
+    { long = Some (codes "rings"); parser = Some (vp.Unsigned 1 most_room) }
+
+-- a flag, which takes no value
+abbrev pub optimal_rule : Rule
+optimal_rule = record (new_rule (codes "optimal"))
+    { long = Some (codes "optimal"); action = Some SetTrue }
+
+abbrev pub most_workers : ℕ
+most_workers = 64
+
+abbrev pub workers_rule : Rule
+workers_rule = number_rule (codes "workers") 1 most_workers (codes "1")
+
+abbrev pub lines_rule : Rule
+lines_rule =
+    record (new_rule (codes "N")) { parser = Some (vp.Unsigned 0 most_lines); required = true }
+
+abbrev pub with_rules : App → List Rule → App
+with_rules app [] = app
+with_rules app (rule ∷ rules) = with_rules (with_rule app rule) rules
+
+-- a command that makes tables and reads no input
+abbrev pub table_app : Text → App
+table_app name = with_rules (new_app name) (program_rule ∷ states_rule ∷ [])
+
+-- a command on a program of one stage, which makes no table
+abbrev pub stage_app : Text → App
+stage_app name = with_rules (new_app name) (program_rule ∷ max_input_rule ∷ block_rule ∷ [])
+
+-- a run makes tables, may join stages by rings or share blocks among workers, and may tell as early
+-- as can be
+abbrev pub run_app : App
+run_app = with_rules (stage_app (codes "run"))
+    (states_rule ∷ rings_rule ∷ workers_rule ∷ optimal_rule ∷ [])
+
+abbrev pub trial_app : App
+trial_app = with_rules (new_app (codes "trial"))
+    (lines_rule ∷ block_rule ∷ rings_rule ∷ workers_rule ∷ [])
+
+-- a run by the tables of a file
+abbrev pub exec_app : App
+exec_app =
+    with_rules (new_app (codes "exec")) (table_rule ∷ max_input_rule ∷ block_rule ∷ [])
+
+-- lines are answered by tables
+abbrev pub each_app : App
+each_app = with_rules (new_app (codes "each"))
+    (program_rule ∷ states_rule ∷ max_input_rule ∷ workers_rule ∷ [])
+
+-- no flag or subcommand for help or the version
+abbrev pub bare_app : App
+bare_app = record (new_app (codes "kex")) {
+  top = record (new_app (codes "kex")).top {
+    disable_help_flag = true;
+    disable_help_subcommand = true;
+    disable_version_flag = true;
+    subcommand_required = true;
+  };
+}
+
+abbrev pub with_subcommands : App → List App → App
+with_subcommands app [] = app
+with_subcommands app (sub ∷ subs) = with_subcommands (with_subcommand app sub.top) subs
+
+abbrev pub begun_app : App
+begun_app = with_subcommands bare_app
+    (run_app ∷ table_app (codes "check") ∷ stage_app (codes "code") ∷ [])
+
+abbrev pub played_app : App
+played_app = with_subcommands begun_app (stage_app (codes "act") ∷ stage_app (codes "test") ∷ [])
+
+abbrev pub tried_app : App
+tried_app = with_subcommands played_app (trial_app ∷ table_app (codes "compile") ∷ [])
+
+-- one of these subcommands, which is required
+abbrev pub kex_app : App
+kex_app = with_subcommands tried_app (exec_app ∷ each_app ∷ [])
+
+-- the line of words that are out of form
+abbrev pub usage_line : List ℕ
+usage_line = concat (codes "usage: kex run|check|code|act|test PROGRAM [--states N]"
+    ∷ codes " [--max-input N] [--block N] [--rings N] [--workers N] [--optimal]"
+    ∷ codes " | kex trial N [--block N] [--rings N] [--workers N]"
+    ∷ codes " | kex compile PROGRAM [--states N]"
+    ∷ codes " | kex exec TABLE [--max-input N] [--block N]"
+    ∷ codes " | kex each PROGRAM [--states N] [--max-input N] [--workers N]\n" ∷ [])
+
+-- ---- what is asked for
 
 -- how many bytes are read, in all and at a time, how many items each ring between two stages has
 -- room for, where there are rings, and how many workers share a block, where there are none
@@ -144,8 +279,8 @@ mode_of of_mode.Test = testing
 
 -- what a command asks for
 abbrev pub asked_by_command : Command → Asked
-asked_by_command (Stream mode program limits) =
-    ToStream (mode_of mode) program.now (reach_of limits)
+asked_by_command (Stream stream) =
+    ToStream (mode_of stream.mode) stream.program.now (reach_of stream.limits)
 asked_by_command (Check program states) = ToCheck program.now states.most
 asked_by_command (Compile program states) = ToCompile program.now states.most
 asked_by_command (Exec table limits) = ToExec table.now (reach_of limits)

@@ -96,15 +96,19 @@ pub enum Mode {
     Test,
 }
 
+/// A program that reads the input to its end, and what is written for that.
+#[derive(Clone, Copy, Debug, PartialEq, Eq)]
+pub struct Stream<'a> {
+    pub mode: Mode,
+    pub program: &'a str,
+    pub limits: RunLimits,
+}
+
 /// What the program is to do. A program of the language is named as the shelf has it.
 #[derive(Clone, Copy, Debug, PartialEq, Eq)]
 pub enum Command<'a> {
     /// Reads the input to its end.
-    Stream {
-        mode: Mode,
-        program: &'a str,
-        limits: RunLimits,
-    },
+    Stream(Stream<'a>),
     /// Asks whether the program breaks a rule, and reads no input.
     Check {
         program: &'a str,

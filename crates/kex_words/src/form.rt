@@ -2,16 +2,21 @@
 ghost use Rattle.std.specs.Prelude.{◌≡◌, IfOk, false};
 ghost use Rattle.clap.specs.Words.{app_of, rule_of, with_subcommand};
 ghost use Rattle.clap.specs.declared.builder.command.Command.TheViews.{out-Command};
-ghost use Rattle.kex_words.specs.Form.{bare_app, begun_app, block_rule, exec_app, kex_app};
-ghost use Rattle.kex_words.specs.Form.{lines_rule, max_input_rule, number_rule, optimal_rule};
-ghost use Rattle.kex_words.specs.Form.{program_rule, table_app, table_rule};
-ghost use Rattle.kex_words.specs.Form.{rings_rule, run_app, stage_app, states_rule, trial_app};
-ghost use Rattle.kex_words.specs.Form.{each_app, played_app, tried_app, workers_rule};
+ghost use Rattle.kex_words.specs.Words.{bare_app, begun_app, block_rule, exec_app, kex_app};
+ghost use Rattle.kex_words.specs.Words.{lines_rule, max_input_rule, number_rule, optimal_rule};
+ghost use Rattle.kex_words.specs.Words.{program_rule, table_app, table_rule};
+ghost use Rattle.kex_words.specs.Words.{rings_rule, run_app, stage_app, states_rule, trial_app};
+ghost use Rattle.kex_words.specs.Words.{each_app, played_app, tried_app, workers_rule};
 
 use crate::asked::{MOST_BLOCK, MOST_INPUT, MOST_LINES, MOST_ROOM, MOST_STATES, MOST_WORKERS};
 use clap::builder::ValueParser;
 use clap::{Arg, ArgAction, Command};
 use std::alloc::{AllocError, Global};
+
+/// The line of words that aren't in form. The launcher reads it here, and what the guide shows is
+/// compared with it.
+pub(crate) const USAGE: &str =
+    "usage: kex run|check|code|act|test PROGRAM [--states N] [--max-input N] [--block N] [--rings N] [--workers N] [--optimal] | kex trial N [--block N] [--rings N] [--workers N] | kex compile PROGRAM [--states N] | kex exec TABLE [--max-input N] [--block N] | kex each PROGRAM [--states N] [--max-input N] [--workers N]\n";
 
 fn program<'a>(alloc: Global) -> Arg<'a>
     ensures rule { rule_of result ≡ program_rule }

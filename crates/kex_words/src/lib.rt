@@ -18,7 +18,7 @@ mod text_sink;
 mod writing;
 
 pub use asked::{
-    Command, LineLimits, Mode, Rings, RunLimits, StateLimit, TrialLines, WordsRefusal,
+    Command, LineLimits, Mode, Rings, RunLimits, StateLimit, Stream, TrialLines, WordsRefusal,
 };
 pub use counts::{Counts, TrialCounts, write_counts, write_trial_counts};
 pub use known::{asks_by_subcommand, asks_in_form, reads_known_words};

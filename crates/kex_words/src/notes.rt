@@ -6,14 +6,10 @@ ghost use Rattle.kex_words.specs.Lines.{line_end, line_of, refused_line, rejecte
 ghost use Rattle.kex_words.specs.Lines.{too_long_line};
 ghost use Rattle.kex_words.specs.declared.notes.Note.TheVariants.{Nothing};
 
+use crate::form::USAGE;
 use crate::parts::{LinePart, write_parts, write_text};
 use crate::refusals::{Refusal, RefusalPlace};
 use kex_ports::{Failed, Sink};
-
-/// The line of words that are out of form. The manual and the guide show it, and are compared with
-/// what the program writes.
-const USAGE: &str =
-    "usage: kex run|check|code|act|test PROGRAM [--states N] [--max-input N] [--block N] [--rings N] [--workers N] [--optimal] | kex trial N [--block N] [--rings N] [--workers N] | kex compile PROGRAM [--states N] | kex exec TABLE [--max-input N] [--block N] | kex each PROGRAM [--states N] [--max-input N] [--workers N]\n";
 
 /// What a run leaves to be told. Stages count from 1, bytes from 0.
 #[derive(Clone, Copy, Debug, PartialEq, Eq)]

@@ -11,7 +11,8 @@ ghost use Rattle.kex_words.specs.declared.asked.WordsRefusal.TheVariants.{Usage}
 
 use crate::asked::{
     Command, LineLimits, MOST_BLOCK, MOST_INPUT, MOST_LINES, MOST_ROOM, MOST_STATES, MOST_WORKERS,
-    Mode, Rings, RunLimits, StateLimit, TrialLines, USUAL_BLOCK, USUAL_STATES, WordsRefusal,
+    Mode, Rings, RunLimits, StateLimit, Stream, TrialLines, USUAL_BLOCK, USUAL_STATES,
+    WordsRefusal,
 };
 use crate::form::form;
 use clap::error::ErrorKind;
@@ -138,11 +139,11 @@ fn stream<'a>(mode: Mode, matches: &ArgMatches<'a>) -> Command<'a>
     ensures { asked_by_command result ≡ ToStream (mode_of mode)
         (program_in (rows_of (found_of matches.now))) (reach_in (rows_of (found_of matches.now))) }
 {
-    Command::Stream {
+    Command::Stream(Stream {
         mode,
         program: program(matches),
         limits: limits(matches),
-    }
+    })
 }
 
 // What the subcommand asks for, if there is one.

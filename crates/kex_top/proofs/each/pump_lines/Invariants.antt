@@ -3,7 +3,7 @@ use Rattle.std.specs.Io.KnownBytes.{Consumes}
 use Rattle.kex_ports.specs.Endings.{counts_of}
 use Rattle.kex_ports.specs.Reads.{Asks}
 use Rattle.kex_each.specs.Lines.{IsBegunBehind}
-use Rattle.kex_words.specs.Form.{most_input}
+use Rattle.kex_words.specs.Words.{most_input}
 use Rattle.kex_top.proofs.LineRuns.{Answered}
 use Rattle.kex_top.proofs.each.pump_lines.Given as goal
 
