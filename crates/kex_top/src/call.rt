@@ -17,20 +17,19 @@ use crate::check::answer_check;
 use crate::compile::answer_compile;
 use crate::each::answer_each;
 use crate::exec::answer_exec;
+use crate::host::Host;
 use crate::serve::answer_stream;
 use crate::start::{StartError, status_of};
 use crate::status::Status;
 use crate::trial::answer_trial;
 use kex_ports::{Gate, Shelf, Sink, Source};
-use kex_words::{Command, Stream, read, tell};
+use kex_words::{Command, read, tell};
 use std::alloc::Global;
 use std::thread::Threads;
 
 // Answers a command.
 fn answer_command<R: Threads + Sync, G: Gate + Sync, H: Shelf, S: Source, K: Sink>(
-    rt: &R,
-    gate: &G,
-    alloc: Global,
+    host: &Host<R, G>,
     command: Command,
     shelf: &mut H,
     input: &mut S,
@@ -52,33 +51,26 @@ fn answer_command<R: Threads + Sync, G: Gate + Sync, H: Shelf, S: Source, K: Sin
         × (calls.writes ≡ false → output.new ≡ output.old) }
 {
     match command {
-        Command::Stream(stream) => {
-            let Stream {
-                mode,
-                program,
-                limits,
-            } = stream;
-            answer_stream(rt, gate, alloc, mode, program, limits, shelf, input, output)
+        Command::Stream(stream) => answer_stream(host, stream, shelf, input, output),
+        Command::Check { program, states } => {
+            answer_check(host.alloc, program, states, shelf, output)
         }
-        Command::Check { program, states } => answer_check(alloc, program, states, shelf, output),
         Command::Each { program, limits } => {
-            answer_each(rt, gate, alloc, program, limits, shelf, input, output)
+            answer_each(host, program, limits, shelf, input, output)
         }
-        Command::Trial(lines) => answer_trial(rt, gate, alloc, lines, output),
+        Command::Trial(lines) => answer_trial(host, lines, output),
         Command::Compile { program, states } => {
-            answer_compile(alloc, program, states, shelf, output)
+            answer_compile(host.alloc, program, states, shelf, output)
         }
         Command::Exec { table, limits } => {
-            answer_exec(rt, gate, alloc, table, limits, shelf, input, output)
+            answer_exec(host, table, limits, shelf, input, output)
         }
     }
 }
 
 // Answers the words.
 fn answer<R: Threads + Sync, G: Gate + Sync, H: Shelf, S: Source, K: Sink>(
-    rt: &R,
-    gate: &G,
-    alloc: Global,
+    host: &Host<R, G>,
     words: &[String],
     shelf: &mut H,
     input: &mut S,
@@ -99,8 +91,8 @@ fn answer<R: Threads + Sync, G: Gate + Sync, H: Shelf, S: Source, K: Sink>(
         (calls.takes ≡ None → shelf.new ≡ shelf.old) × (calls.block ≡ None → input.new ≡ input.old)
         × (calls.writes ≡ false → output.new ≡ output.old) }
 {
-    let command = read(alloc, words)?;
-    answer_command(rt, gate, alloc, command, shelf, input, output)
+    let command = read(host.alloc, words)?;
+    answer_command(host, command, shelf, input, output)
 }
 
 /// Does what the words ask for, and leaves a line in the notes. The words begin with the program's
@@ -158,7 +150,8 @@ pub fn kex<R: Threads + Sync, H: Shelf, S: Source, K: Sink, N: Sink, G: Gate + S
     ensures note { Gains (change_of N.held N.faults notes.old notes.new)
         (line_of (note_of result)) }
 {
-    let status = status_of(answer(rt, gate, alloc, words, shelf, input, output));
+    let host = Host { rt, gate, alloc };
+    let status = status_of(answer(&host, words, shelf, input, output));
     tell(status.note(), notes);
     status
 }

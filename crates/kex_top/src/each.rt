@@ -17,7 +17,8 @@ ghost use Rattle.kex_top.specs.Run.{TroubleCause};
 ghost use Rattle.kex_top.specs.Shelves.{ShelfAnswers, shelf_change_of};
 ghost use Rattle.kex_top.specs.Starts.{status_of_answer};
 
-use crate::limits::limits_to_check;
+use crate::host::Host;
+use crate::limits::{MOST_INPUT, limits_to_check};
 use crate::pass::Trouble;
 use crate::program::plans_of;
 use crate::start::StartError;
@@ -28,19 +29,14 @@ use kex_compile::compiled::Compiled;
 use kex_each::LineAnswers;
 use kex_ports::{Failed, Gate, Shelf, Sink, Source};
 use kex_words::{LineLimits, write_all};
-use std::alloc::Global;
 use std::thread::Threads;
 
 /// The bytes that one read asks for.
 const BLOCK: usize = 65_536;
 
-/// The most bytes that an input may have.
-const MOST_INPUT: u64 = 281_474_976_710_656;
-
 // Reads a piece, and writes the answers to the lines that it ends.
 fn pass_lines<'p, R: Threads + Sync, G: Gate + Sync, K: Sink>(
-    rt: &R,
-    gate: &G,
+    host: &Host<R, G>,
     answers: &mut LineAnswers<'p>,
     piece: &[u8],
     out: &mut Vec<u8>,
@@ -56,15 +52,14 @@ fn pass_lines<'p, R: Threads + Sync, G: Gate + Sync, K: Sink>(
     ensures unfinished { IsUnfinished (K.ending output.old) (K.ending output.new) result }
 {
     out.clear();
-    answers.read(rt, gate, piece, out)?;
+    answers.read(host.rt, host.gate, piece, out)?;
     write_all(output, out)?;
     Ok(())
 }
 
 // Writes the answer to an unfinished line that isn't empty.
 fn pass_last<'p, R: Threads + Sync, G: Gate + Sync, K: Sink>(
-    rt: &R,
-    gate: &G,
+    host: &Host<R, G>,
     answers: &mut LineAnswers<'p>,
     out: &mut Vec<u8>,
     output: &mut K,
@@ -76,7 +71,7 @@ fn pass_last<'p, R: Threads + Sync, G: Gate + Sync, K: Sink>(
     ensures unfinished { IsUnfinished (K.ending output.old) (K.ending output.new) result }
 {
     out.clear();
-    answers.finish(rt, gate, out)?;
+    answers.finish(host.rt, host.gate, out)?;
     write_all(output, out)?;
     Ok(())
 }
@@ -84,8 +79,7 @@ fn pass_last<'p, R: Threads + Sync, G: Gate + Sync, K: Sink>(
 // Reads blocks until the end of input, a fault, or more bytes than an input may have, and writes
 // the answers to the lines of each.
 fn pump_lines<'p, R: Threads + Sync, G: Gate + Sync, S: Source, K: Sink>(
-    rt: &R,
-    gate: &G,
+    host: &Host<R, G>,
     answers: &mut LineAnswers<'p>,
     block: &mut [u8],
     out: &mut Vec<u8>,
@@ -106,11 +100,11 @@ fn pump_lines<'p, R: Threads + Sync, G: Gate + Sync, S: Source, K: Sink>(
     'reads: for _read in 0..MOST_INPUT + 1 {
         match input.read(block) {
             Err(Failed) => return Status::ReadFault,
-            Ok(0) => return match pass_last(rt, gate, answers, out, output) {
+            Ok(0) => return match pass_last(host, answers, out, output) {
                 Ok(()) => Status::Done,
                 Err(trouble) => status_after(trouble),
             },
-            Ok(count) => match pass_lines(rt, gate, answers, &block[..count], out, output) {
+            Ok(count) => match pass_lines(host, answers, &block[..count], out, output) {
                 Ok(()) => {
                     total += count as u64;
                     if total > MOST_INPUT {
@@ -126,9 +120,7 @@ fn pump_lines<'p, R: Threads + Sync, G: Gate + Sync, S: Source, K: Sink>(
 
 // Answers the lines of the input by these stages. Err says that there was no memory to begin with.
 fn answer_lines<R: Threads + Sync, G: Gate + Sync, S: Source, K: Sink>(
-    rt: &R,
-    gate: &G,
-    alloc: Global,
+    host: &Host<R, G>,
     compiled: &Compiled,
     limits: LineLimits,
     input: &mut S,
@@ -148,10 +140,10 @@ fn answer_lines<R: Threads + Sync, G: Gate + Sync, S: Source, K: Sink>(
     ensures left { OnErr result ((input.new ≡ input.old) × (output.new ≡ output.old)) }
 {
     let plans = compiled.stages();
-    let mut answers = LineAnswers::new(alloc, plans, limits.max_input, limits.workers)?;
-    let mut block = vec![in alloc; 0u8; BLOCK]?;
-    let mut out = Vec::new(alloc);
-    let status = pump_lines(rt, gate, &mut answers, &mut block, &mut out, input, output);
+    let mut answers = LineAnswers::new(host.alloc, plans, limits.max_input, limits.workers)?;
+    let mut block = vec![in host.alloc; 0u8; BLOCK]?;
+    let mut out = Vec::new(host.alloc);
+    let status = pump_lines(host, &mut answers, &mut block, &mut out, input, output);
     if !is_whole(status) {
         return Ok(status);
     }
@@ -163,9 +155,7 @@ fn answer_lines<R: Threads + Sync, G: Gate + Sync, S: Source, K: Sink>(
 
 /// Answers a command to answer each line of the input by itself.
 pub(crate) fn answer_each<R: Threads + Sync, G: Gate + Sync, H: Shelf, S: Source, K: Sink>(
-    rt: &R,
-    gate: &G,
-    alloc: Global,
+    host: &Host<R, G>,
     program: &str,
     limits: LineLimits,
     shelf: &mut H,
@@ -184,8 +174,8 @@ pub(crate) fn answer_each<R: Threads + Sync, G: Gate + Sync, H: Shelf, S: Source
     ensures closes { Closes (K.ending output.old) (K.ending output.new) (status_of_answer result) }
 {
     let asked = limits_to_check(limits.states.most);
-    let plans = plans_of(alloc, shelf, program, &asked)?;
-    let short = plans.shorten(alloc)?;
-    let status = answer_lines(rt, gate, alloc, &short, limits, input, output)?;
+    let plans = plans_of(host.alloc, shelf, program, &asked)?;
+    let short = plans.shorten(host.alloc)?;
+    let status = answer_lines(host, &short, limits, input, output)?;
     Ok(status)
 }

@@ -13,6 +13,7 @@ ghost use Rattle.kex_top.specs.Shelves.{ShelfAnswers, TakesFromShelf, shelf_chan
 ghost use Rattle.kex_top.specs.Starts.{status_of_answer};
 ghost use Rattle.kex_top.specs.Taken.{a_table_file};
 
+use crate::host::Host;
 use crate::refused::file_refused;
 use crate::serve::run_stages;
 use crate::start::StartError;
@@ -45,9 +46,7 @@ fn stages_in_file<H: Shelf>(alloc: Global, shelf: &mut H, name: &str) -> Result<
 
 /// Answers a command to run the table file of a name on the input.
 pub(crate) fn answer_exec<R: Threads + Sync, G: Gate + Sync, H: Shelf, S: Source, K: Sink>(
-    rt: &R,
-    gate: &G,
-    alloc: Global,
+    host: &Host<R, G>,
     table: &str,
     limits: RunLimits,
     shelf: &mut H,
@@ -64,8 +63,8 @@ pub(crate) fn answer_exec<R: Threads + Sync, G: Gate + Sync, H: Shelf, S: Source
         (status_of_answer result) }
     ensures closes { Closes (K.ending output.old) (K.ending output.new) (status_of_answer result) }
 {
-    let checked = stages_in_file(alloc, shelf, table)?;
-    let short = checked.shorten(alloc)?;
-    let status = run_stages(rt, gate, alloc, short.stages(), limits, input, output)?;
+    let checked = stages_in_file(host.alloc, shelf, table)?;
+    let short = checked.shorten(host.alloc)?;
+    let status = run_stages(host, short.stages(), limits, input, output)?;
     Ok(status)
 }

@@ -10,8 +10,8 @@ mod check;
 mod compile;
 mod each;
 mod exec;
+mod host;
 mod limits;
-mod lines;
 mod pass;
 mod piece_length;
 mod pipeline;
@@ -29,6 +29,7 @@ mod stream;
 mod taking;
 mod tally;
 mod trial;
+mod trial_lines;
 mod turns;
 mod workers;
 

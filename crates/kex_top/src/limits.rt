@@ -6,6 +6,9 @@ ghost use Rattle.kex_top.specs.Modes.{limits_of, limits_to_check};
 use kex_compile::limits::Limits;
 use kex_words::Mode;
 
+/// The most bytes that an input may have.
+pub(crate) const MOST_INPUT: u64 = 281_474_976_710_656;
+
 const ONE_STAGE: Limits = Limits {
     states: 4096,
     one_stage: true,

@@ -10,6 +10,7 @@ ghost use Rattle.kex_top.specs.Run.{TroubleCause};
 ghost use Rattle.kex_top.specs.declared.pass.Trouble.TheVariants as trouble;
 
 use crate::any_pipe::AnyPipe;
+use crate::host::Host;
 use crate::pipeline::{Limited, end, feed};
 use crate::rounds::Pace;
 use kex_code::memory::Memory;
@@ -45,8 +46,7 @@ impl From<Failed> for Trouble {
 /// What is said of a front begins what is said of the block, if anything is: that has to be known
 /// where fronts are written.
 pub(crate) fn pass<R: Threads + Sync, T: Limited + Drop + Send, G: Gate + Sync, K: Sink>(
-    rt: &R,
-    gate: &G,
+    host: &Host<R, G>,
     pipe: &mut AnyPipe<T>,
     pace: Pace,
     block: &[u8],
@@ -69,7 +69,7 @@ pub(crate) fn pass<R: Threads + Sync, T: Limited + Drop + Send, G: Gate + Sync, 
 {
     let mut rest = block;
     'fronts: loop {
-        let front = feed(rt, gate, pipe, pace, rest, out)?;
+        let front = feed(host, pipe, pace, rest, out)?;
         write_all(output, out)?;
         if front.count == rest.len() {
             return Ok(front.fate);
@@ -80,8 +80,7 @@ pub(crate) fn pass<R: Threads + Sync, T: Limited + Drop + Send, G: Gate + Sync, 
 
 /// Feeds the end and writes what is said.
 pub(crate) fn pass_end<R: Threads + Sync, T: Limited + Drop + Send, G: Gate + Sync, K: Sink>(
-    rt: &R,
-    gate: &G,
+    host: &Host<R, G>,
     pipe: &mut AnyPipe<T>,
     out: &mut Vec<u8>,
     output: &mut K,
@@ -99,7 +98,7 @@ pub(crate) fn pass_end<R: Threads + Sync, T: Limited + Drop + Send, G: Gate + Sy
     ensures cause { TroubleCause (K.faults output.old) (K.faults output.new) result }
     ensures unfinished { IsUnfinished (K.ending output.old) (K.ending output.new) result }
 {
-    let fate = end(rt, gate, pipe, out)?;
+    let fate = end(host, pipe, out)?;
     write_all(output, out)?;
     Ok(fate)
 }

@@ -10,6 +10,7 @@ ghost use Rattle.kex_top.specs.History.{IsFateOfStages, FeedsStages};
 ghost use Rattle.kex_top.specs.Piped.{PipeSays, PipeStands, plans_of};
 
 use crate::any_pipe::{AnyPipe, give_front, work_off};
+use crate::host::Host;
 use crate::plain::{NoDesk, Plain};
 use crate::rounds::Pace;
 use kex_chunk_stage::chunk_stage::ChunkStage;
@@ -79,8 +80,7 @@ pub(crate) struct Front {
 // Feeds a front of the piece to a pipe, and puts into `out`, in place of what it held, what the
 // stages say now.
 fn feed_pipe<R: Threads + Sync, T: Limited + Drop + Send, G: Gate + Sync>(
-    rt: &R,
-    gate: &G,
+    host: &Host<R, G>,
     pipe: &mut AnyPipe<T>,
     pace: Pace,
     piece: &[u8],
@@ -95,8 +95,8 @@ fn feed_pipe<R: Threads + Sync, T: Limited + Drop + Send, G: Gate + Sync>(
         (bytes_passed h ++ take front.count piece.now) false out.new.items front.fate) }
     ensures wants { result ≢ Err PipeFault.Spent }
 {
-    let count = give_front(rt, pipe, gate, pace, piece)?;
-    work_off(rt, pipe, gate)?;
+    let count = give_front(host.rt, pipe, host.gate, pace, piece)?;
+    work_off(host.rt, pipe, host.gate)?;
     pipe.take_output_into(out);
     Ok(Front {
         count,
@@ -106,8 +106,7 @@ fn feed_pipe<R: Threads + Sync, T: Limited + Drop + Send, G: Gate + Sync>(
 
 // The same, for the end of the bytes.
 fn end_pipe<R: Threads + Sync, T: Limited + Drop + Send, G: Gate + Sync>(
-    rt: &R,
-    gate: &G,
+    host: &Host<R, G>,
     pipe: &mut AnyPipe<T>,
     out: &mut Vec<u8>,
 ) -> Result<Fate, PipeFault>
@@ -120,7 +119,7 @@ fn end_pipe<R: Threads + Sync, T: Limited + Drop + Send, G: Gate + Sync>(
     ensures wants { result ≢ Err PipeFault.Spent }
 {
     pipe.give_end()?;
-    work_off(rt, pipe, gate)?;
+    work_off(host.rt, pipe, host.gate)?;
     pipe.take_output_into(out);
     Ok(fate_of(pipe.report()))
 }
@@ -140,8 +139,7 @@ fn want_of(fault: PipeFault) -> Memory
 ///
 /// Once a call has answered Err, the pipe may only be dropped.
 pub(crate) fn feed<R: Threads + Sync, T: Limited + Drop + Send, G: Gate + Sync>(
-    rt: &R,
-    gate: &G,
+    host: &Host<R, G>,
     pipe: &mut AnyPipe<T>,
     pace: Pace,
     piece: &[u8],
@@ -155,7 +153,7 @@ pub(crate) fn feed<R: Threads + Sync, T: Limited + Drop + Send, G: Gate + Sync>(
         → FeedsStages (PipeSays T.Turn (plans_of T.Turn pipe.old)) (PipeStands T.Turn pipe.new) h
         (bytes_passed h ++ take front.count piece.now) false out.new.items front.fate) }
 {
-    match feed_pipe(rt, gate, pipe, pace, piece, out) {
+    match feed_pipe(host, pipe, pace, piece, out) {
         Ok(front) => Ok(front),
         Err(fault) => Err(want_of(fault)),
     }
@@ -163,8 +161,7 @@ pub(crate) fn feed<R: Threads + Sync, T: Limited + Drop + Send, G: Gate + Sync>(
 
 /// The same, for the end of the bytes.
 pub(crate) fn end<R: Threads + Sync, T: Limited + Drop + Send, G: Gate + Sync>(
-    rt: &R,
-    gate: &G,
+    host: &Host<R, G>,
     pipe: &mut AnyPipe<T>,
     out: &mut Vec<u8>,
 ) -> Result<Fate, Memory>
@@ -175,7 +172,7 @@ pub(crate) fn end<R: Threads + Sync, T: Limited + Drop + Send, G: Gate + Sync>(
         → FeedsStages (PipeSays T.Turn (plans_of T.Turn pipe.old)) (PipeStands T.Turn pipe.new) h
         (bytes_passed h) true out.new.items fate) }
 {
-    match end_pipe(rt, gate, pipe, out) {
+    match end_pipe(host, pipe, out) {
         Ok(fate) => Ok(fate),
         Err(fault) => Err(want_of(fault)),
     }

@@ -19,6 +19,7 @@ ghost use Rattle.kex_top.specs.Shelves.{ShelfAnswers, shelf_change_of};
 ghost use Rattle.kex_top.specs.Starts.{status_of_answer};
 
 use crate::any_pipe::AnyPipe;
+use crate::host::Host;
 use crate::limits::limits_of;
 use crate::pipeline::Limited;
 use crate::plain::Plain;
@@ -35,11 +36,11 @@ use kex_pipe::turn::Turn;
 use kex_ports::{Gate, Shelf, Sink, Source};
 use kex_stage::plan::Plan;
 use kex_stage::stage::Stage;
-use kex_words::{Mode, Rings, RunLimits};
+use kex_words::{Mode, Rings, RunLimits, Stream};
 use std::alloc::Global;
 use std::thread::Threads;
 
-// The stage with this plan, which takes at most so many bytes.
+// The stage with this plan, which takes at most `max_input` bytes.
 fn stage_of<'p>(alloc: Global, plan: &'p Plan, max_input: u64) -> Result<Plain<Stage<'p>>, Memory>
     ensures plan { IfOk result (λ s. ⟦<Plain<Stage<'p>> as Turn>⟧.plan s
         ≡ record { machine = teller_of plan.now; limit = max_input }) }
@@ -49,7 +50,7 @@ fn stage_of<'p>(alloc: Global, plan: &'p Plan, max_input: u64) -> Result<Plain<S
     Ok(Plain { alloc, stage })
 }
 
-/// The stages with these plans, each of which takes at most so many bytes.
+/// The stages with these plans, each of which takes at most `max_input` bytes.
 pub(crate) fn stages_of<'p>(
     alloc: Global,
     plans: &'p [Plan],
@@ -95,9 +96,7 @@ pub(crate) fn pipe_of<'p>(
 
 /// Runs the stages with these plans.
 pub(crate) fn run_stages<R: Threads + Sync, G: Gate + Sync, S: Source, K: Sink>(
-    rt: &R,
-    gate: &G,
-    alloc: Global,
+    host: &Host<R, G>,
     plans: &[Plan],
     limits: RunLimits,
     input: &mut S,
@@ -115,24 +114,13 @@ pub(crate) fn run_stages<R: Threads + Sync, G: Gate + Sync, S: Source, K: Sink>(
         Closes (K.ending output.old) (K.ending output.new) status) }
     ensures left { OnErr result ((input.new ≡ input.old) × (output.new ≡ output.old)) }
 {
-    let mut pipe = pipe_of(alloc, plans, limits.max_input, limits.rings)?;
-    run(
-        rt,
-        gate,
-        alloc,
-        &mut pipe,
-        Pace::Parts,
-        limits,
-        input,
-        output,
-    )
+    let mut pipe = pipe_of(host.alloc, plans, limits.max_input, limits.rings)?;
+    run(host, &mut pipe, Pace::Parts, limits, input, output)
 }
 
 // Runs the stages with these plans: with workers where there are several, and no rings.
 fn run_plans<R: Threads + Sync, G: Gate + Sync, S: Source, K: Sink>(
-    rt: &R,
-    gate: &G,
-    alloc: Global,
+    host: &Host<R, G>,
     plans: &[Plan],
     limits: RunLimits,
     input: &mut S,
@@ -152,17 +140,15 @@ fn run_plans<R: Threads + Sync, G: Gate + Sync, S: Source, K: Sink>(
     ensures left { OnErr result ((input.new ≡ input.old) × (output.new ≡ output.old)) }
 {
     if limits.workers > 1 && limits.rings.is_none() {
-        run_shared(rt, gate, alloc, plans, limits, input, output)
+        run_shared(host, plans, limits, input, output)
     } else {
-        run_stages(rt, gate, alloc, plans, limits, input, output)
+        run_stages(host, plans, limits, input, output)
     }
 }
 
 // Writes for the input what is asked for. A test doesn't call the output.
 fn serve<R: Threads + Sync, G: Gate + Sync, S: Source, K: Sink>(
-    rt: &R,
-    gate: &G,
-    alloc: Global,
+    host: &Host<R, G>,
     mode: Mode,
     compiled: &Compiled,
     limits: RunLimits,
@@ -187,63 +173,37 @@ fn serve<R: Threads + Sync, G: Gate + Sync, S: Source, K: Sink>(
     ensures untouched { is_writing (mode_of mode) ≡ false → output.new ≡ output.old }
 {
     match mode {
-        Mode::Run { .. } => run_plans(rt, gate, alloc, compiled.stages(), limits, input, output),
-        Mode::Code => code(
-            rt,
-            gate,
-            alloc,
-            compiled.stages()[0].machine(),
-            limits,
-            input,
-            output,
-        ),
-        Mode::Act => act(
-            rt,
-            gate,
-            alloc,
-            compiled.stages()[0].machine(),
-            limits,
-            input,
-            output,
-        ),
-        Mode::Test => test(
-            rt,
-            gate,
-            alloc,
-            compiled.stages()[0].machine(),
-            limits,
-            input,
-        ),
+        Mode::Run { .. } => run_plans(host, compiled.stages(), limits, input, output),
+        Mode::Code => code(host, compiled.stages()[0].machine(), limits, input, output),
+        Mode::Act => act(host, compiled.stages()[0].machine(), limits, input, output),
+        Mode::Test => test(host, compiled.stages()[0].machine(), limits, input),
     }
 }
 
 /// Answers a command on the input.
 pub(crate) fn answer_stream<R: Threads + Sync, G: Gate + Sync, H: Shelf, S: Source, K: Sink>(
-    rt: &R,
-    gate: &G,
-    alloc: Global,
-    mode: Mode,
-    program: &str,
-    limits: RunLimits,
+    host: &Host<R, G>,
+    stream: Stream,
     shelf: &mut H,
     input: &mut S,
     output: &mut K,
 ) -> Result<Status, StartError>
     ensures texts { H.texts shelf.new ≡ H.texts shelf.old }
-    ensures shelf { ShelfAnswers (told_of (H.texts shelf.old) program.now)
+    ensures shelf { ShelfAnswers (told_of (H.texts shelf.old) stream.entry.program.now)
         (shelf_change_of H.faults H.breaks shelf.old shelf.new) (status_of_answer result) }
-    ensures answers { CommandAnswers (ToStream (mode_of mode) program.now (reach_of limits))
+    ensures answers { CommandAnswers (ToStream (mode_of stream.entry.mode)
+        stream.entry.program.now (reach_of stream.entry.limits))
         (H.texts shelf.old) (S.reads input.new) (change_of S.rest S.faults input.old input.new)
         (change_of K.held K.faults output.old output.new) (status_of_answer result) }
-    ensures reads { ReadsBlocks limits.block (S.reads input.old) (S.reads input.new)
+    ensures reads { ReadsBlocks stream.entry.limits.block (S.reads input.old) (S.reads input.new)
         (status_of_answer result) }
-    ensures closes { is_writing (mode_of mode) ≡ true
+    ensures closes { is_writing (mode_of stream.entry.mode) ≡ true
         → Closes (K.ending output.old) (K.ending output.new) (status_of_answer result) }
-    ensures untouched { is_writing (mode_of mode) ≡ false → output.new ≡ output.old }
+    ensures untouched { is_writing (mode_of stream.entry.mode) ≡ false → output.new ≡ output.old }
 {
-    let asked = limits_of(mode);
-    let plans = plans_of(alloc, shelf, program, &asked)?;
-    let short = plans.shorten(alloc)?;
-    let status = serve(rt, gate, alloc, mode, &short, limits, input, output)?;
+    let asked = limits_of(stream.mode);
+    let plans = plans_of(host.alloc, shelf, stream.program, &asked)?;
+    let short = plans.shorten(host.alloc)?;
+    let status = serve(host, stream.mode, &short, stream.limits, input, output)?;
     Ok(status)
 }

@@ -14,6 +14,7 @@ ghost use Rattle.kex_top.specs.Pipelines.{StagesSay};
 ghost use Rattle.kex_top.specs.Run.{IsAsBefore, Ran};
 
 use crate::any_pipe::AnyPipe;
+use crate::host::Host;
 use crate::pipeline::Limited;
 use crate::plain::{NoDesk, Plain};
 use crate::rounds::Pace;
@@ -25,7 +26,6 @@ use kex_pipe::turn::Turn;
 use kex_ports::{Gate, NeverFailsSink, Sink, Source};
 use kex_single::{Coder, Player, Tester};
 use kex_words::RunLimits;
-use std::alloc::Global;
 use std::thread::Threads;
 
 impl<'m> Limited for Plain<Coder<'m>> {
@@ -63,9 +63,7 @@ impl<'m> Limited for Plain<Tester<'m>> {
 
 // Runs one stage.
 fn run_one<R: Threads + Sync, T: Limited + Drop + Send, G: Gate + Sync, S: Source, K: Sink>(
-    rt: &R,
-    gate: &G,
-    alloc: Global,
+    host: &Host<R, G>,
     stage: T,
     pace: Pace,
     limits: RunLimits,
@@ -86,17 +84,15 @@ fn run_one<R: Threads + Sync, T: Limited + Drop + Send, G: Gate + Sync, S: Sourc
         Closes (K.ending output.old) (K.ending output.new) status) }
     ensures left { OnErr result ((input.new ≡ input.old) × (output.new ≡ output.old)) }
 {
-    let mut stages = Vec::new(alloc);
+    let mut stages = Vec::new(host.alloc);
     stages.push(stage)?;
-    let mut pipe = AnyPipe::new(alloc, stages, None)?;
-    run(rt, gate, alloc, &mut pipe, pace, limits, input, output)
+    let mut pipe = AnyPipe::new(host.alloc, stages, None)?;
+    run(host, &mut pipe, pace, limits, input, output)
 }
 
 /// Writes the code of the input.
 pub(crate) fn code<R: Threads + Sync, G: Gate + Sync, S: Source, K: Sink>(
-    rt: &R,
-    gate: &G,
-    alloc: Global,
+    host: &Host<R, G>,
     machine: &Trimmed,
     limits: RunLimits,
     input: &mut S,
@@ -114,19 +110,17 @@ pub(crate) fn code<R: Threads + Sync, G: Gate + Sync, S: Source, K: Sink>(
     ensures left { OnErr result ((input.new ≡ input.old) × (output.new ≡ output.old)) }
 {
     let _nodes = machine.nodes();
-    let coder = Coder::new(alloc, machine, limits.max_input)?;
+    let coder = Coder::new(host.alloc, machine, limits.max_input)?;
     let stage = Plain {
-        alloc,
+        alloc: host.alloc,
         stage: coder,
     };
-    run_one(rt, gate, alloc, stage, Pace::Parts, limits, input, output)
+    run_one(host, stage, Pace::Parts, limits, input, output)
 }
 
 /// Writes what the input means as the text of a code.
 pub(crate) fn act<R: Threads + Sync, G: Gate + Sync, S: Source, K: Sink>(
-    rt: &R,
-    gate: &G,
-    alloc: Global,
+    host: &Host<R, G>,
     machine: &Trimmed,
     limits: RunLimits,
     input: &mut S,
@@ -143,19 +137,17 @@ pub(crate) fn act<R: Threads + Sync, G: Gate + Sync, S: Source, K: Sink>(
         Closes (K.ending output.old) (K.ending output.new) status) }
     ensures left { OnErr result ((input.new ≡ input.old) × (output.new ≡ output.old)) }
 {
-    let player = Player::new(alloc, machine, limits.max_input)?;
+    let player = Player::new(host.alloc, machine, limits.max_input)?;
     let stage = Plain {
-        alloc,
+        alloc: host.alloc,
         stage: player,
     };
-    run_one(rt, gate, alloc, stage, Pace::Blocks, limits, input, output)
+    run_one(host, stage, Pace::Blocks, limits, input, output)
 }
 
 /// Tells whether the input has a parse, and writes nothing.
 pub(crate) fn test<R: Threads + Sync, G: Gate + Sync, S: Source>(
-    rt: &R,
-    gate: &G,
-    alloc: Global,
+    host: &Host<R, G>,
     machine: &Trimmed,
     limits: RunLimits,
     input: &mut S,
@@ -168,15 +160,13 @@ pub(crate) fn test<R: Threads + Sync, G: Gate + Sync, S: Source>(
         ReadsBlocks limits.block (S.reads input.old) (S.reads input.new) status) }
     ensures left { OnErr result (input.new ≡ input.old) }
 {
-    let tester = Tester::new(alloc, machine, limits.max_input)?;
+    let tester = Tester::new(host.alloc, machine, limits.max_input)?;
     let stage = Plain {
-        alloc,
+        alloc: host.alloc,
         stage: tester,
     };
     run_one(
-        rt,
-        gate,
-        alloc,
+        host,
         stage,
         Pace::Blocks,
         limits,

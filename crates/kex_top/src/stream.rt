@@ -8,6 +8,8 @@ ghost use Rattle.kex_top.specs.Pipelines.{AlwaysSays};
 ghost use Rattle.kex_top.specs.Run.{Pumped, Ran, status_of, status_after, is_whole};
 
 use crate::any_pipe::AnyPipe;
+use crate::host::Host;
+use crate::limits::MOST_INPUT;
 use crate::pass::{Trouble, pass, pass_end};
 use crate::pipeline::{Limited, rejected};
 use crate::rounds::Pace;
@@ -17,7 +19,6 @@ use kex_pipe::report::Rejected;
 use kex_pipe::turn::{Fate, Why};
 use kex_ports::{Failed, Gate, Sink, Source};
 use kex_words::RunLimits;
-use std::alloc::Global;
 use std::thread::Threads;
 
 // The status of a run that was worked off.
@@ -45,19 +46,16 @@ pub(crate) fn status_after(trouble: Trouble) -> Status
 /// Reads blocks until the end of input, a fault or a report, and writes what the stages say of each
 /// at this pace.
 pub(crate) fn pump<R: Threads + Sync, T: Limited + Drop + Send, G: Gate + Sync, S: Source, K: Sink>(
-    rt: &R,
-    gate: &G,
+    host: &Host<R, G>,
     pipe: &mut AnyPipe<T>,
     pace: Pace,
     block: &mut [u8],
-    out: &mut Vec<u8>,
     input: &mut S,
     output: &mut K,
-    most: u64,
 ) -> Status
     requires fresh { PipeStands T.Turn pipe.old None }
     requires says { pace ≡ Pace.Parts → AlwaysSays (PipeSays T.Turn (plans_of T.Turn pipe.old)) }
-    requires limit { (limit_of T.Turn T.limit pipe.old ≡ most) × (most ≤ 2 ^ 48) }
+    requires limit { limit_of T.Turn T.limit pipe.old ≤ 2 ^ 48 }
     requires block { (0 < length block.old) × (length block.old ≤ 2 ^ 20) }
     ensures pumped { Pumped (PipeSays T.Turn (plans_of T.Turn pipe.old))
         (last_given (length block.old) (S.reads input.new))
@@ -66,21 +64,22 @@ pub(crate) fn pump<R: Threads + Sync, T: Limited + Drop + Send, G: Gate + Sync, 
     ensures asks { Asks (length block.old) (S.reads input.old) (S.reads input.new) }
     ensures unclosed { IsSinkOpen (K.ending output.old) (K.ending output.new) result }
 {
-    match pass(rt, gate, pipe, pace, &[], out, output) {
+    let mut out = Vec::new(host.alloc);
+    match pass(host, pipe, pace, &[], &mut out, output) {
         Ok(Fate::On) => {}
         Ok(Fate::Stopped) => return status_of(rejected(pipe)),
         Err(trouble) => return status_after(trouble),
     }
     // Each read gives at least one byte, and with one byte more than it takes the first stage has a
     // report.
-    'reads: for _read in 0..most + 1 {
+    'reads: for _read in 0..MOST_INPUT + 1 {
         match input.read(block) {
             Err(Failed) => return Status::ReadFault,
-            Ok(0) => return match pass_end(rt, gate, pipe, out, output) {
-                Ok(_) => status_of(rejected(pipe)),
-                Err(trouble) => status_after(trouble),
+            Ok(0) => match pass_end(host, pipe, &mut out, output) {
+                Ok(_) => return status_of(rejected(pipe)),
+                Err(trouble) => return status_after(trouble),
             },
-            Ok(count) => match pass(rt, gate, pipe, pace, &block[..count], out, output) {
+            Ok(count) => match pass(host, pipe, pace, &block[..count], &mut out, output) {
                 Ok(Fate::On) => {}
                 Ok(Fate::Stopped) => return status_of(rejected(pipe)),
                 Err(trouble) => return status_after(trouble),
@@ -107,9 +106,7 @@ pub(crate) fn is_whole(status: Status) -> bool
 /// Runs new stages over a source into a sink, by blocks, within the limits. Err says that there was
 /// no memory for a block.
 pub(crate) fn run<R: Threads + Sync, T: Limited + Drop + Send, G: Gate + Sync, S: Source, K: Sink>(
-    rt: &R,
-    gate: &G,
-    alloc: Global,
+    host: &Host<R, G>,
     pipe: &mut AnyPipe<T>,
     pace: Pace,
     limits: RunLimits,
@@ -129,19 +126,8 @@ pub(crate) fn run<R: Threads + Sync, T: Limited + Drop + Send, G: Gate + Sync, S
         Closes (K.ending output.old) (K.ending output.new) status) }
     ensures left { OnErr result ((input.new ≡ input.old) × (output.new ≡ output.old)) }
 {
-    let mut buffer = vec![in alloc; 0u8; limits.block as usize]?;
-    let mut out = Vec::new(alloc);
-    let status = pump(
-        rt,
-        gate,
-        pipe,
-        pace,
-        &mut buffer,
-        &mut out,
-        input,
-        output,
-        limits.max_input,
-    );
+    let mut buffer = vec![in host.alloc; 0u8; limits.block as usize]?;
+    let status = pump(host, pipe, pace, &mut buffer, input, output);
     if !is_whole(status) {
         return Ok(status);
     }

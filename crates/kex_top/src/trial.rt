@@ -22,8 +22,8 @@ ghost use Rattle.kex_top.specs.Tallies.{Counts, HasWaiting, SumsUp};
 ghost use Rattle.kex_top.specs.Trials.{AreTrialCounts, made_lines};
 
 use crate::any_pipe::AnyPipe;
-use crate::limits::limits_to_check;
-use crate::lines::{next, push_line};
+use crate::host::Host;
+use crate::limits::{MOST_INPUT, limits_to_check};
 use crate::pipeline::{Limited, end, feed};
 use crate::program::plans_of_text;
 use crate::rounds::Pace;
@@ -31,13 +31,13 @@ use crate::serve::pipe_of;
 use crate::start::StartError;
 use crate::status::Status;
 use crate::tally::Tally;
+use crate::trial_lines::{next, push_line};
 use crate::workers::chunk_pipe_of;
 use kex_code::memory::Memory;
 use kex_compile::compiled::Compiled;
 use kex_ports::{Failed, Gate, Sink};
 use kex_stage::plan::Plan;
 use kex_words::{TrialCounts, TrialLines, write_trial_counts};
-use std::alloc::Global;
 use std::thread::Threads;
 
 const TEXT: &str =
@@ -45,12 +45,9 @@ const TEXT: &str =
 
 const STATES: u32 = 4_096;
 
-const MOST_INPUT: u64 = 281_474_976_710_656;
-
 // Gives a piece, and drops what is written for it.
 fn give<R: Threads + Sync, T: Limited + Drop + Send, G: Gate + Sync>(
-    rt: &R,
-    gate: &G,
+    host: &Host<R, G>,
     pipe: &mut AnyPipe<T>,
     piece: &[u8],
     out: &mut Vec<u8>,
@@ -63,14 +60,13 @@ fn give<R: Threads + Sync, T: Limited + Drop + Send, G: Gate + Sync>(
         → Counts (PipeSays T.Turn (plans_of T.Turn pipe.old)) (PipeStands T.Turn pipe.new) h
         (bytes_passed h ++ piece.now) false tally more) }
 {
-    let _ = feed(rt, gate, pipe, Pace::Blocks, piece, out)?;
+    let _ = feed(host, pipe, Pace::Blocks, piece, out)?;
     Ok(tally.add(piece.len(), out))
 }
 
 // Gives the end.
 fn give_end<R: Threads + Sync, T: Limited + Drop + Send, G: Gate + Sync>(
-    rt: &R,
-    gate: &G,
+    host: &Host<R, G>,
     pipe: &mut AnyPipe<T>,
     out: &mut Vec<u8>,
     tally: Tally,
@@ -82,11 +78,11 @@ fn give_end<R: Threads + Sync, T: Limited + Drop + Send, G: Gate + Sync>(
         → Counts (PipeSays T.Turn (plans_of T.Turn pipe.old)) (PipeStands T.Turn pipe.new) h
         (bytes_passed h) true tally more) }
 {
-    let _ = end(rt, gate, pipe, out)?;
+    let _ = end(host, pipe, out)?;
     Ok(tally.add(0, out))
 }
 
-// Takes so many bytes away in front.
+// Takes away the first `count` bytes.
 fn drop_front(waiting: &mut Vec<u8>, count: usize)
     requires { count ≤ length waiting.old.items }
     ensures { waiting.new.items ≡ drop count waiting.old.items }
@@ -96,8 +92,7 @@ fn drop_front(waiting: &mut Vec<u8>, count: usize)
 
 // Gives what waits in whole blocks.
 fn give_blocks<R: Threads + Sync, T: Limited + Drop + Send, G: Gate + Sync>(
-    rt: &R,
-    gate: &G,
+    host: &Host<R, G>,
     pipe: &mut AnyPipe<T>,
     waiting: &mut Vec<u8>,
     block: usize,
@@ -115,7 +110,7 @@ fn give_blocks<R: Threads + Sync, T: Limited + Drop + Send, G: Gate + Sync>(
 {
     let mut more = tally;
     'blocks: while waiting.len() >= block {
-        more = give(rt, gate, pipe, &waiting[..block], out, more)?;
+        more = give(host, pipe, &waiting[..block], out, more)?;
         drop_front(waiting, block);
     }
     Ok(more)
@@ -123,9 +118,7 @@ fn give_blocks<R: Threads + Sync, T: Limited + Drop + Send, G: Gate + Sync>(
 
 // Gives lines in blocks, and then the end.
 fn give_lines<R: Threads + Sync, T: Limited + Drop + Send, G: Gate + Sync>(
-    rt: &R,
-    gate: &G,
-    alloc: Global,
+    host: &Host<R, G>,
     pipe: &mut AnyPipe<T>,
     lines: TrialLines,
 ) -> Result<Tally, Memory>
@@ -133,32 +126,23 @@ fn give_lines<R: Threads + Sync, T: Limited + Drop + Send, G: Gate + Sync>(
     ensures { IfOk result (λ tally.
         SumsUp (PipeSays T.Turn (plans_of T.Turn pipe.old)) (made_lines lines.count) tally) }
 {
-    let mut out = Vec::new(alloc);
-    let mut waiting = Vec::new(alloc);
+    let mut out = Vec::new(host.alloc);
+    let mut waiting = Vec::new(host.alloc);
     let mut state = 0;
-    let mut tally = give(rt, gate, pipe, &[], &mut out, Tally::new())?;
+    let mut tally = give(host, pipe, &[], &mut out, Tally::new())?;
     'lines: for _line in 0..lines.count {
         state = next(state);
         push_line(state, &mut waiting)?;
-        tally = give_blocks(
-            rt,
-            gate,
-            pipe,
-            &mut waiting,
-            lines.block as usize,
-            &mut out,
-            tally,
-        )?;
+        let block = lines.block as usize;
+        tally = give_blocks(host, pipe, &mut waiting, block, &mut out, tally)?;
     }
-    tally = give(rt, gate, pipe, &waiting, &mut out, tally)?;
-    give_end(rt, gate, pipe, &mut out, tally)
+    tally = give(host, pipe, &waiting, &mut out, tally)?;
+    give_end(host, pipe, &mut out, tally)
 }
 
 // Gives the lines to stages with these plans: with workers where there are several, and no rings.
 fn run_lines<R: Threads + Sync, G: Gate + Sync>(
-    rt: &R,
-    gate: &G,
-    alloc: Global,
+    host: &Host<R, G>,
     plans: &[Plan],
     lines: TrialLines,
 ) -> Result<Tally, Memory>
@@ -169,18 +153,16 @@ fn run_lines<R: Threads + Sync, G: Gate + Sync>(
         (made_lines lines.count) tally) }
 {
     if lines.workers > 1 && lines.rings.is_none() {
-        let mut pipe = chunk_pipe_of(alloc, plans, MOST_INPUT, lines.workers)?;
-        return give_lines(rt, gate, alloc, &mut pipe, lines);
+        let mut pipe = chunk_pipe_of(host.alloc, plans, MOST_INPUT, lines.workers)?;
+        return give_lines(host, &mut pipe, lines);
     }
-    let mut pipe = pipe_of(alloc, plans, MOST_INPUT, lines.rings)?;
-    give_lines(rt, gate, alloc, &mut pipe, lines)
+    let mut pipe = pipe_of(host.alloc, plans, MOST_INPUT, lines.rings)?;
+    give_lines(host, &mut pipe, lines)
 }
 
 // Runs the plans on the lines, and sums up what they write.
 fn sum_up<R: Threads + Sync, G: Gate + Sync>(
-    rt: &R,
-    gate: &G,
-    alloc: Global,
+    host: &Host<R, G>,
     compiled: &Compiled,
     lines: TrialLines,
 ) -> Result<TrialCounts, Memory>
@@ -191,7 +173,7 @@ fn sum_up<R: Threads + Sync, G: Gate + Sync>(
         AreTrialCounts (NodesSay (agreed_plans most_input compiled.now.stages))
         lines.count counts) }
 {
-    let tally = run_lines(rt, gate, alloc, compiled.stages(), lines)?;
+    let tally = run_lines(host, compiled.stages(), lines)?;
     Ok(TrialCounts {
         lines: lines.count,
         made: tally.made,
@@ -217,9 +199,7 @@ fn tell_trial_counts<K: Sink>(counts: TrialCounts, output: &mut K) -> Status
 
 /// Answers a command for a trial. It needs no shelf and no source.
 pub(crate) fn answer_trial<R: Threads + Sync, G: Gate + Sync, K: Sink>(
-    rt: &R,
-    gate: &G,
-    alloc: Global,
+    host: &Host<R, G>,
     lines: TrialLines,
     output: &mut K,
 ) -> Result<Status, StartError>
@@ -230,8 +210,8 @@ pub(crate) fn answer_trial<R: Threads + Sync, G: Gate + Sync, K: Sink>(
     ensures closes { Closes (K.ending output.old) (K.ending output.new) (status_of_answer result) }
 {
     let asked = limits_to_check(STATES);
-    let plans = plans_of_text(alloc, TEXT.as_bytes(), &asked)?;
-    let short = plans.shorten(alloc)?;
-    let counts = sum_up(rt, gate, alloc, &short, lines)?;
+    let plans = plans_of_text(host.alloc, TEXT.as_bytes(), &asked)?;
+    let short = plans.shorten(host.alloc)?;
+    let counts = sum_up(host, &short, lines)?;
     Ok(tell_trial_counts(counts, output))
 }

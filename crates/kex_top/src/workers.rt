@@ -9,6 +9,7 @@ ghost use Rattle.kex_top.specs.Pipelines.{AllAnswer, AlwaysSays, NodesSay, stage
 ghost use Rattle.kex_top.specs.Run.{Ran};
 
 use crate::any_pipe::AnyPipe;
+use crate::host::Host;
 use crate::pipeline::Limited;
 use crate::rounds::Pace;
 use crate::sharing::Sharing;
@@ -23,7 +24,8 @@ use kex_words::RunLimits;
 use std::alloc::Global;
 use std::thread::Threads;
 
-// The stages with these plans, each of which takes at most so many bytes, and has so many workers.
+// The stages with these plans, each of which takes at most `max_input` bytes and has `workers`
+// workers.
 fn chunk_stages_of<'p>(
     alloc: Global,
     plans: &'p [Plan],
@@ -51,7 +53,7 @@ fn chunk_stages_of<'p>(
     Ok(stages)
 }
 
-/// The pipe of the stages with these plans, each of which has so many workers.
+/// The pipe of the stages with these plans, each of which has `workers` workers.
 pub(crate) fn chunk_pipe_of<'p>(
     alloc: Global,
     plans: &'p [Plan],
@@ -76,9 +78,7 @@ pub(crate) fn chunk_pipe_of<'p>(
 
 /// Runs the stages with these plans, each of which shares what it reads among its workers.
 pub(crate) fn run_shared<R: Threads + Sync, G: Gate + Sync, S: Source, K: Sink>(
-    rt: &R,
-    gate: &G,
-    alloc: Global,
+    host: &Host<R, G>,
     plans: &[Plan],
     limits: RunLimits,
     input: &mut S,
@@ -97,15 +97,6 @@ pub(crate) fn run_shared<R: Threads + Sync, G: Gate + Sync, S: Source, K: Sink>(
         Closes (K.ending output.old) (K.ending output.new) status) }
     ensures left { OnErr result ((input.new ≡ input.old) × (output.new ≡ output.old)) }
 {
-    let mut pipe = chunk_pipe_of(alloc, plans, limits.max_input, limits.workers)?;
-    run(
-        rt,
-        gate,
-        alloc,
-        &mut pipe,
-        Pace::Parts,
-        limits,
-        input,
-        output,
-    )
+    let mut pipe = chunk_pipe_of(host.alloc, plans, limits.max_input, limits.workers)?;
+    run(host, &mut pipe, Pace::Parts, limits, input, output)
 }

@@ -32,6 +32,6 @@ serve-requires-clause-tables g c = λ κs bounds asked.
 
 pub returns-clause-answers : goal.returns-clause-answers
 returns-clause-answers g c =
-    let told = told_of (g.H.Shelf.texts c.args.shelf.now) c.args.program.now in
-    served (mode_of c.args.mode) c.args.program.now (reach_of c.args.limits) _ _ c.in_ok-short.short _ _ c.in_ok-status.status
+    let told = told_of (g.H.Shelf.texts c.args.shelf.now) c.args.stream.program.now in
+    served (mode_of c.args.stream.mode) c.args.stream.program.now (reach_of c.args.stream.limits) _ _ c.in_ok-short.short _ _ c.in_ok-status.status
     (subst (λ l. HasPlans l told c.in_ok-short.short) c.limits_of-asked.ensures.value (subst (λ z. HasPlans c.limits_of-asked.result told z) (sym c.in_ok-short.ensures) c.in_ok-plans.ensures.plans)) c.in_ok-status.ensures.ran

@@ -112,7 +112,7 @@ pub returns-clause-pumped : goal.returns-clause-pumped
 returns-clause-pumped g c =
     let limited = g.met.T.Limited g.world.𝓛 g.world.𝓜 g.world.𝓡 ((λ s x. x), (λ x. x), (λ x. x), λ x. x) in
     let i = c.reads.invariant in
-    let past : limit_of g.T.Turn g.T.Limited.limit c.args.pipe.now < length i.fed.0 = omega (arith, c.reads-test.false, i.fed.4, c.requires.limit.0) in
+    let past : limit_of g.T.Turn g.T.Limited.limit c.args.pipe.now < length i.fed.0 = omega (arith, c.reads-test.false, i.fed.4, c.requires.limit) in
     absurd (some-not-none _ _ refl ((says_ends g.T.Turn.gives g.T.Turn.plan g.T.Limited.limit (λ s v b gives more. limited.past_limit s v b gives more) (stages_of g.T.Turn c.args.pipe.now)) _ _ i.fed.2 past) i.fed.6)
 
 -- ---- what was asked for
