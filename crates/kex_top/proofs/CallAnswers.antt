@@ -18,7 +18,7 @@ use Rattle.kex_single.specs.Plays as plays
 use Rattle.kex_single.specs.Singles as single
 use Rattle.kex_lowering.specs.Stages.{Carries}
 use Rattle.kex_words.specs.Words.{Asked, Mode, Reach}
-use Rattle.kex_words.specs.Words.Asked.{ToCheck, ToCompile, ToEach, ToExec, ToStream, ToTry}
+use Rattle.kex_words.specs.Words.Asked.{ToCheck, ToStream, ToTry}
 use Rattle.kex_words.specs.Words.Mode.{running, coding, acting, testing}
 use Rattle.kex_model.specs.Programs.{Grammar}
 use Rattle.kex_lowering.proofs.BestCodes.{carries_best}
@@ -30,11 +30,10 @@ use Rattle.kex_compile.specs.Compiled.{Accepts, IsCompiled, IsRefused}
 use Rattle.kex_compile.specs.declared.limits.Limits.{Limits}
 use Rattle.kex_compile.specs.declared.refusal.CompileRefusal.{CompileRefusal}
 use Rattle.kex_words.specs.Gains.{StreamChange}
-use Rattle.kex_words.specs.declared.refusals.Refusal.{Refusal}
 use Rattle.kex_words.specs.Words.{most_input}
 use Rattle.kex_words.specs.Lines.{counts_line, trial_line}
 use Rattle.kex_words.specs.declared.counts.TrialCounts.{TrialCounts}
-use Rattle.kex_top.specs.Commands.{Counted, Performs, TellsBytes, calls_of, taken_for, told_text}
+use Rattle.kex_top.specs.Commands.{Counted, TellsBytes, calls_of, taken_for, told_text}
 use Rattle.kex_top.specs.Refusals.{HasNone, HasPlans, IsStartOf}
 use Rattle.kex_top.specs.Taken.{a_text}
 use Rattle.kex_top.specs.Starts.{status_of}
@@ -48,6 +47,7 @@ use Rattle.kex_pipe.specs.declared.turn.Turn.{Ghosts}
 use Rattle.kex_top.specs.Pipelines.{Answered, NodesSay, StagesSay, agreed_plans, first_limit, stage_plans, told_plans}
 use Rattle.kex_top.specs.Run.{IsAsBefore, Left, Ran, EndsAs, WritesAll}
 use Rattle.kex_top.specs.Kex.{CommandAnswers, CommandWorks}
+use Rattle.kex_top.proofs.CommandCases.{laws_of}
 use Rattle.kex_top.specs.Modes.{BeginsTreeCode, HasParseAlone, IsTreeCode, WritesPart, MachineGives, MachinesSay, MeansCode, SaysCode, SaysNothing, SaysBy, StageGives, limits_of, limits_to_check}
 use Rattle.kex_pipe.specs.declared.report.Rejected.{Rejected as Report}
 use Rattle.kex_top.specs.declared.status.Status.{Status}
@@ -297,31 +297,7 @@ unbegun asked texts reads source sink start.Shelf h t l = (t refl, l)
 unbegun asked texts reads source sink (start.Refused r) h t l = (l, h)
 unbegun asked texts reads source sink start.Memory h t l = inl l
 
--- ---- a command that has begun: by its program it answers none of what is answered before
-
-not_usage : (asked : Asked) (text : List ℕ) (P : Grammar) (reads : Option Reads) (source sink : StreamChange) → Performs asked text P reads source sink Usage → ⊥
-not_usage (ToStream mode name reach) text P reads source sink h = h.ends
-not_usage (ToCheck name states) text P reads source sink h = h.1.told
-not_usage (ToEach name states limit workers) text P reads source sink h = h.ends
-not_usage (ToTry lines block rings workers) text P reads source sink h = h.1.told
-not_usage (ToCompile name states) text P reads source sink h = h.1.told
-not_usage (ToExec name reach) text P reads source sink h = h.ends
-
-not_refused : (asked : Asked) (text : List ℕ) (P : Grammar) (reads : Option Reads) (source sink : StreamChange) (r : Refusal) → Performs asked text P reads source sink (Refused r) → ⊥
-not_refused (ToStream mode name reach) text P reads source sink r h = h.ends
-not_refused (ToCheck name states) text P reads source sink r h = h.1.told
-not_refused (ToEach name states limit workers) text P reads source sink r h = h.ends
-not_refused (ToTry lines block rings workers) text P reads source sink r h = h.1.told
-not_refused (ToCompile name states) text P reads source sink r h = h.1.told
-not_refused (ToExec name reach) text P reads source sink r h = h.ends
-
-not_shelf : (asked : Asked) (text : List ℕ) (P : Grammar) (reads : Option Reads) (source sink : StreamChange) → Performs asked text P reads source sink ShelfFault → ⊥
-not_shelf (ToStream mode name reach) text P reads source sink h = h.ends
-not_shelf (ToCheck name states) text P reads source sink h = h.1.told
-not_shelf (ToEach name states limit workers) text P reads source sink h = h.ends
-not_shelf (ToTry lines block rings workers) text P reads source sink h = h.1.told
-not_shelf (ToCompile name states) text P reads source sink h = h.1.told
-not_shelf (ToExec name reach) text P reads source sink h = h.ends
+-- ---- a command that has begun
 
 pub begun : (asked : Asked) (texts : Option Texts) (reads : Option Reads) (source sink : StreamChange) (s : Status) → CommandWorks asked texts reads source sink s → CommandAnswers asked texts reads source sink s
 begun asked texts reads source sink Done w = w
@@ -331,9 +307,9 @@ begun asked texts reads source sink InputTooLong w = w
 begun asked texts reads source sink ReadFault w = w
 begun asked texts reads source sink WriteFault w = w
 begun asked texts reads source sink Memory w = inr w
-begun asked texts reads source sink Usage w = not_usage asked w.text w.program reads source sink w.performs
-begun asked texts reads source sink (Refused x) w = absurd (not_refused asked w.text w.program reads source sink x w.performs)
-begun asked texts reads source sink ShelfFault w = absurd (not_shelf asked w.text w.program reads source sink w.performs)
+begun asked texts reads source sink Usage w = (laws_of texts reads source sink asked).no_usage w.text w.program w.performs
+begun asked texts reads source sink (Refused x) w = absurd ((laws_of texts reads source sink asked).no_refusal w.text w.program x w.performs)
+begun asked texts reads source sink ShelfFault w = absurd ((laws_of texts reads source sink asked).no_shelf_fault w.text w.program w.performs)
 
 pub served : (mode : Mode) (name : List ℕ) (reach : Reach) (texts : Option Texts) (reads : Option Reads) (plans : Plans) (source sink : StreamChange) (s : Status) → HasPlans (limits_of mode) (told_of texts name) plans → Ran (MachinesSay mode reach.max_input plans.stages) (last_given reach.block reads) source sink s → CommandAnswers (ToStream mode name reach) texts reads source sink s
 served mode name reach texts reads plans source sink s h r =

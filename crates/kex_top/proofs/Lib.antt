@@ -9,6 +9,8 @@ pub mod BlockFronts
 pub mod AnswerExistence
 pub mod WholeRuns
 pub mod LineRuns
+pub mod GoodRuns
+pub mod CommandCases
 pub mod CallAnswers
 pub mod LineCommands
 pub mod FiledStages
