@@ -87,7 +87,7 @@ run p # main := /(a{200}){200}/ # a #  # 3 refused: K15 TooManyStates in stage 1
 check p # main := /(a{1000}){600}/ # a #  # 3 refused: K11 TooManyPlaces in stage 1
 check p # start: b >> a a := /a/ a b := /b*/ # a #  # 3 refused: K13 NoText in stage 2
 run p #  # a #  # 3 refused: K09 NoStart
-run # main := /a*/ # a #  # 2 usage: kex run|check|code|act|test PROGRAM [--states N] [--max-input N] [--block N] [--rings N] [--workers N] [--optimal] | kex trial N [--block N] [--rings N] [--workers N] | kex compile PROGRAM [--states N] | kex exec TABLE [--max-input N] [--block N] | kex each PROGRAM [--states N] [--max-input N] [--workers N]
+run # main := /a*/ # a #  # 2 usage: ..
 run q # main := /a*/ # a #  # 6 shelf fault
 "#;
 

@@ -11,7 +11,7 @@ compile p --states 3 # main := /a{3}/ # a #  # 3 refused: K15 TooManyStates in s
 compile p # main := main # a #  # 3 refused: K13 NoText in stage 1
 compile p # main := /a # a #  # 3 refused: K01 BadToken at line 1 column 9
 compile q # main := /a*/ # a #  # 6 shelf fault
-compile # main := /a*/ # a #  # 2 usage: kex run|check|code|act|test PROGRAM [--states N] [--max-input N] [--block N] [--rings N] [--workers N] [--optimal] | kex trial N [--block N] [--rings N] [--workers N] | kex compile PROGRAM [--states N] | kex exec TABLE [--max-input N] [--block N] | kex each PROGRAM [--states N] [--max-input N] [--workers N]
+compile # main := /a*/ # a #  # 2 usage: ..
 compile p # main := /a*/ # a # kextable 1 # 5 write fault # taken=5 write=3
 compile p # main := /a*/ # a # kextable 1^text 12^main := /a*/^stage 1 classes 2 states 1^state 0 (1,2)^init ,0,1^go 0 1 0 $1;.,0,1^end^ # 5 write fault # write=2
 "#;
