@@ -39,7 +39,7 @@ abbrev pub SaysLines : Grammar → ℕ → List ℕ → Bool → Said → Type 0
 SaysLines P limit w e said =
     LinesSay (λ root v d a. StageAnswers P root limit v d a) (roots_of P) w e said
 
--- The last read, which gave no more than so many bytes, took the input past the most that it may
+-- The last read, which gave no more than this many bytes, took the input past the most that it may
 -- have.
 abbrev pub GoesPast : ℕ → List ℕ → Type 0
 GoesPast last w = (most_input < length w) × (length w ≤ most_input + last)

@@ -86,7 +86,7 @@ pub record Counted (P : Grammar) (Told : List ℕ → Type 0) : Type 0 where
   pub told
       : Told (counts_line (record { stages = length P.stages; places = places; states = states }))
 
--- What a program says of so many lines was summed up, and the line of that told.
+-- What a program says of this many lines was summed up, and the line of that written.
 pub record Tried (P : Grammar) (lines : ℕ) (Told : List ℕ → Type 0) : Type 0 where
   pub counts : TrialCounts
   pub sums : AreTrialCounts (Answered P most_input) lines counts
@@ -138,7 +138,7 @@ InputIsGood (ToCompile name states) text source = ⊤
 InputIsGood (ToExec name reach) file source =
     StreamParses (λ P. HoldsProgram file P) (λ P. Answered P reach.max_input) source
 
--- A command that runs a program's stages on the input, each of which takes at most so many bytes.
+-- A command that runs a program's stages on the input, each of which takes at most this many bytes.
 abbrev pub runs_within : Asked → Option ℕ
 runs_within (ToStream (running states optimal) name reach) = Some reach.max_input
 runs_within (ToExec name reach) = Some reach.max_input

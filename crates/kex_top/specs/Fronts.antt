@@ -3,7 +3,7 @@ use Rattle.std.specs.Prelude.{◌≡◌, ◌<◌, ◌≤◌, ℕ, List, length}
 use Rattle.kex_top.specs.declared.rounds.Pace.{Pace}
 use Rattle.kex_top.specs.declared.rounds.Pace.TheVariants.{Blocks}
 
--- so many of the bytes are a front of them, which has some if there are any: all, where they go by
+-- the first `count` bytes are a front, which has some if there are any: all, where they go by
 -- blocks
 pub record IsFront (pace : Pace) (bytes : List ℕ) (count : ℕ) : Type 0 where
   pub within : count ≤ length bytes

@@ -24,7 +24,7 @@ use Rattle.kex_top.specs.Answer.{Said}
 use Rattle.kex_top.specs.Pipelines.{PipelineSays, StagesSay}
 
 -- what is asked of a program: where its input is run through its stages, that no stage has more
--- than so many states, and, where that is optimal, none too many pairs; otherwise that it has one
+-- than this many states, and, where that is optimal, none too many pairs; otherwise that it has one
 -- stage
 abbrev pub limits_of : Mode → Limits
 limits_of (running states optimal) =

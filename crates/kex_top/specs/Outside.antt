@@ -29,7 +29,7 @@ ReadsBlocks block before now (Refused r) = now ≡ before
 ReadsBlocks block before now ShelfFault = now ≡ before
 ReadsBlocks block before now _ = Asks block before now
 
--- The same of a command whose reads ask for so many bytes, or that makes none.
+-- The same of a command whose reads ask for this many bytes, or that makes none.
 abbrev pub ReadsBy : Option ℕ → Option Reads → Option Reads → Status → Type 0
 ReadsBy None before now status = now ≡ before
 ReadsBy (Some block) before now status = ReadsBlocks block before now status

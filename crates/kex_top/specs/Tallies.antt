@@ -5,7 +5,7 @@ use Rattle.kex_top.specs.History.{History, bytes_passed, history_text}
 use Rattle.kex_top.specs.Trials.{saturated_count, rolling_sum}
 use Rattle.kex_top.specs.declared.tally.Tally.{Tally}
 
--- so many bytes were given, and this text was written
+-- the bytes of `given` were counted, and this text was written
 pub record IsTally (tally : Tally) (given text : List ℕ) : Type 0 where
   pub made : tally.made ≡ saturated_count (length given)
   pub written : tally.written ≡ saturated_count (length text)

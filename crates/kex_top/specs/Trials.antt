@@ -16,7 +16,7 @@ letter x bits = 97 + (x / 2 ^ bits) % 26
 abbrev pub drawn_line : ℕ → List ℕ
 drawn_line x = letter x 8 ∷ letter x 16 ∷ letter x 24 ∷ 32 ∷ decimal (x % 10000) ++ 10 ∷ []
 
--- so many lines, of the states after this one
+-- lines of the states after this one
 abbrev pub lines_from : ℕ → ℕ → List ℕ
 lines_from x zero = []
 lines_from x (suc n) = drawn_line (next_random x) ++ lines_from (next_random x) n
@@ -42,7 +42,7 @@ trial_text = codes
 abbrev pub usual_states : ℕ
 usual_states = 4096
 
--- what is said of so many lines is summed up
+-- what is said of this many lines is summed up
 pub record AreTrialCounts (says : List ℕ → Bool → Said → Type 0) (lines : ℕ)
     (counts : TrialCounts) : Type 0 where
   pub said : Said
