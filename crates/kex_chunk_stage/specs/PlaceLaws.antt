@@ -1,4 +1,4 @@
--- The laws of places: what two workers that stand at one place do behind it, and what a stop means
+-- The laws of places: what two workers that stand at one place do after it, and what a stop means
 -- for longer texts.
 use Rattle.std.proofs.Common.{◌≡◌, ℕ, List, ◌++◌, Some, inl, ⊎_elim, refl, sym, ap, ap₂, subst, ◌∙◌}
 use Rattle.std.proofs.Common.{append_assoc}
@@ -90,7 +90,7 @@ alike a b state read p same there here = (there.0.read_is ∙ sym here.0.read_is
           good = f.good;
         }))
 
--- what stands behind a byte that was refused changes nothing
+-- what stands after a byte that was refused changes nothing
 pub stopped : (k : Telling) (g : Graph) (w v : List ℕ) (at : ℕ) (text : List ℕ)
     → SaysViable (IsViableFor g) (SaysAs k g) (HasRun g) (MeansByRun g) w (Some at) text
     → SaysViable (IsViableFor g) (SaysAs k g) (HasRun g) (MeansByRun g) (w ++ v) (Some at) text

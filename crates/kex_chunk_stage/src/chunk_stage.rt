@@ -26,7 +26,7 @@ pub struct ChunkStage<'p> {
     within: Bounded<ChunkWorker<TableWorker<'p>>>,
 }
 
-// So many desks for so many workers: by one alone nothing is gained.
+// How many desks there are for `workers` workers: by one alone nothing is gained.
 fn desks_for(workers: u32) -> u32
     requires { workers ≤ 64 }
     ensures { result ≤ 64 }
@@ -35,8 +35,8 @@ fn desks_for(workers: u32) -> u32
 }
 
 impl<'p> ChunkStage<'p> {
-    /// A stage that has read nothing, takes at most so many bytes, and has a desk for each of so
-    /// many workers.
+    /// A stage that has read nothing, takes at most `max_input` bytes, and has a desk for each
+    /// worker.
     pub fn new(
         alloc: Global,
         plan: &'p Plan,

@@ -107,7 +107,7 @@ impl<'p> TableBasis<'p> {
     }
 }
 
-// The number of the byte behind the good ones, where that was refused.
+// The number of the byte after the good ones, where that was refused.
 fn refused_at(refused: bool, good: u64) -> Option<u64>
     ensures { result ≡ refused_at refused good }
 {
