@@ -92,19 +92,19 @@ AreStages P [] [] = Unit {0}
 AreStages P (r ∷ rs) (m ∷ ms) = IsStage P r m × AreStages P rs ms
 AreStages P rs ms = ⊥
 
--- the stages have so many places in all
+-- the stages have this many places in all
 abbrev pub HaveInAll : Grammar → List ℕ → ℕ → Type 0
 HaveInAll P [] total = total ≡ 0
 HaveInAll P (r ∷ rs) total = (own rest : ℕ) × HasPlaces P r own × HaveInAll P rs rest
     × (total ≡ own + rest)
 
--- so many places each
+-- these numbers of places, stage by stage
 abbrev pub HaveEach : Grammar → List ℕ → List ℕ → Type 0
 HaveEach P [] [] = Unit {0}
 HaveEach P (r ∷ rs) (n ∷ ns) = HasPlaces P r n × HaveEach P rs ns
 HaveEach P rs ns = ⊥
 
--- and so many states in all
+-- and this many states in all
 abbrev pub HaveStatesInAll : Grammar → List ℕ → ℕ → Type 0
 HaveStatesInAll P [] total = total ≡ 0
 HaveStatesInAll P (r ∷ rs) total = (own rest : ℕ) × HasStates (moves P) (start_of P r) own
@@ -244,12 +244,12 @@ HasEachMachine roots f lowered = least f ≡ None → length lowered.machines �
 abbrev pub HasMoreNodes : Limits → Graph → Type 0
 HasMoreNodes limits m = HasMoreStates (node_moves m.nodes) m.start limits.states
 
--- where tables are asked for, the machine has so many states, and no more than are allowed
+-- where tables are asked for, the machine has this many states, and no more than are allowed
 abbrev pub HasStatesIf : Limits → Graph → ℕ → Type 0
 HasStatesIf limits m n = limits.tables ≡ true → HasStates (node_moves m.nodes) m.start n
     × (HasMoreNodes limits m → ⊥)
 
--- and so many the machines in all
+-- and this many the machines in all
 abbrev pub NodeStates : Limits → List Graph → ℕ → Type 0
 NodeStates limits [] total = total ≡ 0
 NodeStates limits (m ∷ ms) total = (own rest : ℕ) × HasStates (node_moves m.nodes) m.start own
@@ -287,7 +287,7 @@ IsUntabled limits ms (TooManyPairs n) = NoneIs (HasMoreNodes limits) ms
 IsUntabled limits ms Memory = Unit {0}
 IsUntabled limits ms _ = ⊥
 
--- the machines have plans, with their tables, and so many states in all; none has too many pairs
+-- the machines have plans, with their tables, and their states in all; none has too many pairs
 pub record HaveTheirPlans (limits : Limits) (ms : List Graph) (plans : Plans) : Type 0 where
   pub machines : plans.stages ≡ ms
   pub tables : AreTabled limits ms plans.tables

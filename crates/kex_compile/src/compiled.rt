@@ -74,7 +74,7 @@ impl Compiled {
         }
     }
 
-    /// One stage more, with so many states, whose machine bears its number.
+    /// One stage more, with this many states, whose machine bears its number.
     pub(crate) fn push(&mut self, plan: Plan, states: u32) -> Result<(), Memory>
         requires states { self.old.states + states < 2 ^ 64 }
         requires stages { length self.old.stages + 1 < 2 ^ 32 }

@@ -107,7 +107,7 @@ pub(crate) struct Planning {
 }
 
 impl Planning {
-    // One machine more. Behind one that has too many pairs it is only asked for its states, since
+    // One machine more. After one that has too many pairs it is only asked for its states, since
     // that rule comes first.
     fn add(
         &mut self,
