@@ -65,7 +65,7 @@ pub record ChecksAt (g : Graph) (entries : List (ℕ × Outline)) (states state 
 abbrev pub BeginsWith : Graph → Change → Type 0
 BeginsWith g u = (a : Grown Part ℕ) × IsFirstTree g (Some a) × IsChange u a
 
--- a state of this shape has so many registers, and this way to its end
+-- a state of this shape has this many registers, and this way to its end
 pub record HasEnds (g : Graph) (s : Shape ℕ) (registers : ℕ)
     (accepting : Option (List Part)) : Type 0 where
   pub count : suc registers ≡ size_of s
@@ -95,7 +95,7 @@ BreaksStages gs old (BadTable line) = (before rest : List ℕ) × (old.rest ≡ 
 BreaksStages gs old Memory = Unit {0}
 BreaksStages gs old _ = ⊥
 
--- why what comes behind all stages is refused: it isn't the last line, or goes on behind it
+-- why what comes after all stages is refused: it isn't the last line, or goes on after it
 abbrev pub BreaksEnd : ReadSoFar → TableRefusal → Type 0
 BreaksEnd old (BadTable line) = ((Begins old.rest end_line → ⊥) × (line ≡ line_behind old.before))
     ⊎ ((more : List ℕ) × (old.rest ≡ end_line ++ more) × (more ≡ [] → ⊥)

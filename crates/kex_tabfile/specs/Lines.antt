@@ -32,7 +32,7 @@ abbrev pub registers_text : List (List Part) → List ℕ
 registers_text [] = []
 registers_text (xs ∷ rest) = codes "," ++ (parts_text xs ++ registers_text rest)
 
--- what is passed on, and behind a comma what each register is given
+-- what is passed on, and after a comma what each register is given
 abbrev pub update_text : Change → List ℕ
 update_text u = parts_text u.out ++ registers_text u.regs
 
@@ -76,6 +76,6 @@ go_line state class target u = go_front state class ++ go_rest target u
 abbrev pub end_line : List ℕ
 end_line = codes "end\n"
 
--- the number of the line that begins behind these bytes
+-- the number of the line that begins after these bytes
 abbrev pub line_behind : List ℕ → ℕ
 line_behind before = suc (count_by (λ b. b == line_feed) before)

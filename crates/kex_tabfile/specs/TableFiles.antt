@@ -58,7 +58,7 @@ pub record IsGood (file : List ℕ) (plans : List Planned) : Type 0 where
   pub spells : IsTableFile file text (map machine_of plans) (map goes_in plans)
   pub tables : EachHasTable plans
 
--- behind the lines before, which are right, none that would be right comes next
+-- after the lines before, which are right, none that would be right comes next
 pub data BreaksLines (ms : List Graph) : List ℕ → List ℕ → Type 0 where
   in_stage : (done left : List Graph) {g : Graph} (tables : List (List (List (Option Transition))))
       (front : List ℕ) {before rest : List ℕ} → ms ≡ done ++ g ∷ left
@@ -76,7 +76,7 @@ pub data IsBadFront (file : List ℕ) : ℕ → Type 0 where
   bad_text : Begins file name_line → ((text : List ℕ) → Begins file (head_text text) → ⊥)
       → IsBadFront file 2
 
--- the line of this number is the first that is not right: before the text, or behind it where the
+-- the line of this number is the first that is not right: before the text, or after it where the
 -- text has machines
 pub data IsBadLine (file : List ℕ) : ℕ → Type 0 where
   bad_front : {line : ℕ} → IsBadFront file line → IsBadLine file line

@@ -1,4 +1,4 @@
--- How a tree is written from its nodes in preorder: what comes behind the tree that is next.
+-- How a tree is written from its nodes in preorder: what comes after the tree that is next.
 use Rattle.std.specs.Prelude.{◌≡◌, ℕ, Bool, List, [], ◌∷◌, ◌++◌, ◌⊎◌, codes, drop}
 use Rattle.kex_model.specs.Labelled.{Shape}
 use Rattle.kex_machine.specs.Advancing.{EachPlace}
@@ -7,7 +7,7 @@ use Rattle.kex_tabfile.specs.Lines.{tree_text}
 use Rattle.kex_tabfile.specs.declared.trees.TreeMark.{TreeMark}
 use Rattle.kex_tabfile.specs.declared.trees.TreeMark.TheVariants.{Comma, Close}
 
--- what comes behind a tree: the comma and the right side, or the end of both sides
+-- what comes after a tree: the comma and the right side, or the end of both sides
 pub data TailPart : Type 0 where
   right_side : Shape ℕ → TailPart
   closing : TailPart
@@ -56,7 +56,7 @@ TailGoesOn numbers xs line marks longer = ((marks ≡ []) × IsTailLeft numbers 
     ⊎ ((s : Shape ℕ) × (ys : List TailPart) × (comma : List ℕ) × AreTreeMarks marks ys
     × (comma ++ codes "," ≡ longer) × IsTailLeft numbers xs line (right_side s ∷ ys) comma)
 
--- at node i, behind so many leaves: the tree that is next, and its tail
+-- at node i, after `count` leaves: the tree that is next, and its tail
 pub record IsInTree (numbers : List ℕ) (count : ℕ) (shape : List Bool) (leaves whole : List ℕ)
     (i leaf : ℕ) (marks : List TreeMark) (line : List ℕ) : Type 0 where
   pub here : Shape ℕ

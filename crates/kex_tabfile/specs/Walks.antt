@@ -1,4 +1,4 @@
--- Which lines of a stage are right, each behind those before it.
+-- Which lines of a stage are right, each after those before it.
 use Rattle.std.specs.Prelude.{◌≡◌, ℕ, ◌<◌, ◌≤◌, List, [], ◌∷◌, ◌++◌, ◌⊎◌, Option, Some, None}
 use Rattle.std.specs.Prelude.{length}
 use Rattle.kex_byteset.specs.Classes.{class_count}
@@ -37,15 +37,15 @@ told_first n s = record {
 }
 
 -- where a line of a stage stands: the stage's own, with this number; that of the next state, or
--- what comes behind the last; that of the start's update; or one of the next state, which has this
--- tree, behind so many classes
+-- what comes after the last; that of the start's update; or one of the next state, which has this
+-- tree, after some of its classes
 pub data Spot : Type 0 where
   at_stage : ℕ → Spot
   at_state : Told → Spot
   at_init : Told → Shape ℕ → Spot
   at_class : Told → Shape ℕ → List (Option Transition) → Spot
 
--- the first state has the line of the start's update behind its own
+-- the first state has the line of the start's update after its own
 abbrev pub behind_state : Told → Shape ℕ → List (List (Option Transition)) → Spot
 behind_state told s [] = at_init told s
 behind_state told s (row ∷ rows) = at_class told s []
@@ -82,7 +82,7 @@ module _ (g : Graph) (numbers classes : List ℕ) where
         (go_line (length told.rows) (length go) r.target r.update)
         (at_class (record told { targets = after }) s (go ++ Some r ∷ []))
 
-  -- what is passed by without a line: a class that leaves no survivor, and a state behind its
+  -- what is passed by without a line: a class that leaves no survivor, and a state after its
   -- classes
   pub data HasNoLine : Spot → Spot → Type 0 where
     class_over : {told : Told} {s : Shape ℕ} {go : List (Option Transition)}

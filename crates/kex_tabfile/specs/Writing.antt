@@ -21,7 +21,7 @@ goes_text state class (None ∷ go) = goes_text state (suc class) go
 goes_text state class (Some r ∷ go) = go_line state class r.target r.update
     ++ goes_text state (suc class) go
 
--- the start's update has its line behind that of the first state
+-- the start's update has its line after that of the first state
 abbrev pub init_behind : Change → ℕ → List ℕ
 init_behind u zero = init_line u
 init_behind u (suc state) = []

@@ -62,11 +62,11 @@ fn take_end(reader: &mut TableReader) -> Result<(), TableRefusal>
     Ok(())
 }
 
-/// The plans that a table file has, if it is good: its lines are right, each behind those before,
+/// The plans that a table file has, if it is good: its lines are right, each after those before,
 /// and its text breaks no rule. Nothing in it is believed: each tree and each update is made again.
 ///
 /// The length is asked first, then the lines before the text, then the text, and then the lines
-/// behind it.
+/// after it.
 pub fn check_table(alloc: Global, bytes: &[u8]) -> Result<Checked, TableRefusal>
     ensures good { IfOk result (λ plans. IsGood bytes.now plans) }
     ensures within { IfOk result (λ plans. length bytes.now ≤ most_bytes) }

@@ -121,7 +121,7 @@ impl<'b> TableReader<'b> {
         Ok(())
     }
 
-    /// Reads a line and a text of so many bytes, with a line feed behind it, if they come next.
+    /// Reads a line and a text of `size` bytes, with a line feed after it, if they come next.
     pub(crate) fn take_text(&mut self, line: &[u8], size: usize) -> Option<&'b [u8]>
         ensures read { IfSome result (λ text. (length text.now ≡ size)
             × ReadsBytes self.old (line.now ++ (text.now ++ codes "\n")) self.new) }
@@ -142,7 +142,7 @@ impl<'b> TableReader<'b> {
         Some(&behind[..size])
     }
 
-    /// The number that comes so many bytes on, if it is at most `most`. Where there are no digits,
+    /// The number that comes `skip` bytes on, if it is at most `most`. Where there are no digits,
     /// it stands for nothing.
     pub(crate) fn number(&self, skip: usize, most: u32) -> Option<u32>
         ensures short { length self.now.rest ≤ most_bytes }

@@ -11,14 +11,14 @@ use crate::spell::push_number;
 use kex_code::memory::Memory;
 use std::alloc::Global;
 
-// What is to be written behind a tree: the comma before the right one, or the end of both.
+// What is to be written after a tree: the comma before the right one, or the end of both.
 #[derive(Clone, Copy)]
 enum TreeMark {
     Comma,
     Close,
 }
 
-// Writes what comes behind a tree, up to the next tree.
+// Writes what comes after a tree, up to the next tree.
 fn push_marks(pending: &mut Vec<TreeMark>, line: &mut Vec<u8>) -> Result<(), Memory>
     ensures { OnOk result ((numbers : List ℕ) (tail : List TailPart)
         → AreTreeMarks pending.old.items tail
