@@ -2,8 +2,8 @@
 use crate::call::each_holds;
 use std::test::Fail;
 
-// A piece of more than a mebibyte into a second stage; a fault of reading behind a block and a part
-// of one; faults of writing behind a part of a block, since what one stage says is written before
+// A piece of more than a mebibyte into a second stage; a fault of reading after a block and a part
+// of one; faults of writing after a part of a block, since what one stage says is written before
 // the next part is given, where there are 65,536 bytes of it; blocks of lines through two stages
 // and registers; and more than rounds of rings with room for one item take, so that the rest is
 // settled.

@@ -4,7 +4,7 @@ ghost use Rattle.std.specs.List.{repeat};
 
 use std::alloc::{AllocError, Global};
 
-/// A front, so many times a middle, and an end.
+/// A front, `times` times a middle, and an end.
 pub fn around(
     alloc: Global,
     front: &[u8],

@@ -175,7 +175,7 @@ run p # start: a >> b a := (w@/[a-z]+/ "," !w /\n/)* b := (~/,/ /[a-z]*\n/)* # %
 "#;
 
 // Eight lines of three bytes have a byte that is refused: the first of a part, the last, the last
-// before it and one within. Then a limit ends at a part, within it and behind all.
+// before it and one within. Then a limit ends at a part, within it and after all.
 const STOPS: &str = r#"
 run p # main := (/[a-z]*\n/)* # %ab$%2%Xb$ab$ab$ab$ab$ab$ # %ab$%2% # 1 rejected: stage 1 at byte 6
 run p # main := (/[a-z]*\n/)* # %ab$%4%abXab$ab$ab$ # %ab$%4%ab # 1 rejected: stage 1 at byte 14

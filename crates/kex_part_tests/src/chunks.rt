@@ -26,7 +26,7 @@ fn shown(alloc: Global, summary: &Summary) -> Result<String, AllocError> {
     Ok(all)
 }
 
-// The summary of two texts, one behind the other, by theirs.
+// The summary of two texts, one after the other, by theirs.
 fn composed(alloc: Global, table: &Table, one: &str, other: &str) -> Result<String, Fail> {
     let one = chunk(alloc, table, one.as_bytes())?;
     let other = chunk(alloc, table, other.as_bytes())?;
@@ -37,7 +37,7 @@ fn composed(alloc: Global, table: &Table, one: &str, other: &str) -> Result<Stri
     Ok(shown(alloc, &both)?)
 }
 
-// Two texts, and the courses of one behind the other from the three states of a table, which are
+// Two texts, and the courses of one after the other from the three states of a table, which are
 // numbered as they are met.
 const COURSES: &str = r#"
 b x => gone 0 gone 1 gone 0
@@ -89,7 +89,7 @@ fn gate_meets_chunks(rt: HostRuntime) -> Result<(), Fail> {
     Ok(())
 }
 
-// A text by its summary behind `a`.
+// A text by its summary after `a`.
 fn applied(alloc: Global, table: &Table, text: &[u8]) -> Result<Option<Applied>, Fail> {
     let mut runner = Runner::new(alloc, table)?;
     let mut code = Code::new(alloc);

@@ -23,7 +23,7 @@ fn answer(alloc: Global, text: &[u8], limits: &Limits) -> Result<String, AllocEr
     }
 }
 
-// So many states, or one stage without tables, or tables that tell what is best.
+// A number of states, or one stage without tables, or tables that tell what is best.
 fn limits_of(word: &str) -> Result<Limits, Fail> {
     if word == "one" {
         return Ok(Limits {
@@ -60,7 +60,7 @@ fn text_of(alloc: Global, spelling: &str) -> Result<Vec<u8>, Fail> {
 // How many states a stage may have, and a text. Where one stage is asked for, a second is refused,
 // but only after all rules that the text breaks, and without tables no state is counted. Then come
 // states up to their limit; limits of texts at their number, where another rule is broken or none,
-// and one past it; and pairs, which are asked behind the states of all stages.
+// and one past it; and pairs, which are asked after the states of all stages.
 const TEXTS: &str = r#"
 4096 main := 1 => 1 2 1
 4096 main := /a*/ => 1 3 1

@@ -1,4 +1,4 @@
-//! A stage that copies what it reads, and wants memory once it has answered so many calls.
+//! A stage that copies what it reads, and wants memory after a number of calls.
 ghost use Rattle.std.specs.Prelude.{◌≡◌, true, false, Bool, Option};
 ghost use Rattle.std.proofs.Common.{sym, ◌∙◌};
 ghost use Rattle.kex_pipe.specs.Copying.{copy_answer, Copies, copied-grows, copied-stays};
@@ -7,7 +7,7 @@ ghost use Rattle.kex_pipe.specs.Copying.{copied-ends};
 use kex_code::memory::Memory;
 use kex_pipe::turn::{Fate, Stop, Turn};
 
-/// Copies what it reads, and wants memory once it has answered so many calls.
+/// Copies what it reads, and wants memory after a number of calls.
 #[derive(Drop)]
 pub struct Copier {
     usable: bool,
@@ -59,7 +59,7 @@ impl Turn for Copier {
     }
 }
 
-/// Wants memory at the call after so many.
+/// Wants memory after `calls` calls.
 pub fn failing(calls: u32) -> Copier
     ensures { result.usable ≡ true }
 {

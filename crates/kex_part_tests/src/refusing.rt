@@ -1,4 +1,4 @@
-//! A stage round another one: it wants memory once it has answered so many calls, and tells whether
+//! A stage round another one: it wants memory after a number of calls, and tells whether
 //! it works while its gate is closed.
 ghost use Rattle.std.specs.Prelude.{◌≡◌, true, IsTrue, None};
 
@@ -48,7 +48,7 @@ impl Gate for Watch {
     }
 }
 
-/// Answers as another stage does, and wants memory once it has answered so many calls.
+/// Answers as another stage does, and wants memory after a number of calls.
 #[derive(Drop)]
 pub struct Refusing<'w, T: Turn + Drop> {
     stage: T,
@@ -106,7 +106,7 @@ impl<'w, T: Turn + Drop> Turn for Refusing<'w, T> {
     }
 }
 
-/// Wants memory at the call after so many.
+/// Wants memory after `calls` calls.
 pub fn refusing_after<'w, T: Turn + Drop>(stage: T, watch: &'w Watch, calls: u32) -> Refusing<'w, T>
     requires { T.stands stage None }
     ensures { ⟦<Refusing<'w, T> as Turn>⟧.stands result None }
