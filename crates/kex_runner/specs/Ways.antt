@@ -13,7 +13,7 @@ use Rattle.kex_runner.specs.declared.ways.Split.{Split}
 use Rattle.kex_runner.specs.declared.ways.WayStart.{WayStart}
 use Rattle.kex_runner.specs.declared.ways.WayStep.{WayStep}
 use Rattle.kex_runner.specs.declared.ways.Form.{Form}
-use Rattle.kex_runner.specs.declared.ways.Form.TheVariants.{Said, Mute, Other}
+use Rattle.kex_runner.specs.declared.ways.Form.TheVariants.{Said, Silent, Other}
 use Rattle.kex_runner.specs.declared.ways.Ways.{Ways}
 use Rattle.kex_runner.specs.declared.history.walking.WalkPoint.{WalkPoint}
 
@@ -54,7 +54,7 @@ IsStart s ways x = 0 < x.list → IfSome x.split (λ y. IsSplit s.words ways y (
 
 abbrev pub split_by : WayStep → Form → Option Split
 split_by x Said = Some (record { way = x.way; last = x.last; word = Some x.word })
-split_by x Mute = Some (record { way = x.way; last = x.last; word = None })
+split_by x Silent = Some (record { way = x.way; last = x.last; word = None })
 split_by x Other = None
 
 -- the way and the word of a step, if it has them

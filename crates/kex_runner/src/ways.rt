@@ -45,7 +45,7 @@ pub struct WayStart {
 #[derive(Clone, Copy, Debug, PartialEq, Eq)]
 pub enum Form {
     Said,
-    Mute,
+    Silent,
     Other,
 }
 
@@ -232,7 +232,7 @@ impl WayStep {
                 Form::Other,
             ),
             Some(split) => match split.word {
-                None => (split, 0, Form::Mute),
+                None => (split, 0, Form::Silent),
                 Some(word) => (split, word, Form::Said),
             },
         };
@@ -253,7 +253,7 @@ impl WayStep {
     {
         match self.form {
             Form::Other => None,
-            Form::Mute => Some(Split {
+            Form::Silent => Some(Split {
                 way: self.way,
                 last: self.last,
                 word: None,
