@@ -30,7 +30,7 @@ module _ {T : Type 0} (Gives' : T → List ℕ → Bool → Answer → Type 0) (
   abbrev pub AnswersLines : List (List ℕ) → List (List ℕ) → Type 0
   AnswersLines lines texts = Each (λ line text. AnswersLine line text) lines texts
 
--- the stages of plans, each of which takes at most so many bytes
+-- the stages of plans, each of which takes at most `limit` bytes
 abbrev pub plans_within : ℕ → List Planned → List StagePlan
 plans_within limit plans = map (λ t. record { machine = t; limit = limit }) (map teller_of plans)
 

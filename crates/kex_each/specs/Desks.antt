@@ -12,7 +12,7 @@ pub record DeskState : Type 0 where
 abbrev pub lines_between : ℕ → ℕ → List (List ℕ) → List (List ℕ)
 lines_between from to lines = take (to - from) (drop from lines)
 
--- the answers of desks, one behind the other
+-- the answers of desks, one after the other
 abbrev pub answers_of : List DeskState → List (List ℕ)
 answers_of [] = []
 answers_of (d ∷ ds) = d.answers ++ answers_of ds

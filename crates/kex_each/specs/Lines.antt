@@ -14,7 +14,7 @@ lines_behind line [] = []
 lines_behind line (b ∷ w) =
     if is_line_feed b then line ∷ lines_behind [] w else lines_behind (line ++ b ∷ []) w
 
--- the line that stands unfinished behind a text
+-- the line that stands unfinished after a text
 abbrev pub begun_behind : List ℕ → List ℕ → List ℕ
 begun_behind line [] = line
 begun_behind line (b ∷ w) =
@@ -33,7 +33,7 @@ abbrev pub lines_of : List ℕ → Bool → List (List ℕ)
 lines_of w false = lines_behind [] w
 lines_of w true = lines_behind [] w ++ line_if_some (begun_behind [] w)
 
--- of each line so many bytes, from its front
+-- of each line the first `keep` bytes
 abbrev pub fronts_of : ℕ → List (List ℕ) → List (List ℕ)
 fronts_of keep lines = map (λ line. take keep line) lines
 
@@ -43,12 +43,12 @@ pub record BegunLine : Type 0 where
   pub kept : List ℕ
   pub begun : Bool
 
--- this is kept of the unfinished line behind w
+-- this is kept of the unfinished line after w
 pub record IsBegunBehind (w : List ℕ) (l : BegunLine) : Type 0 where
   pub kept : l.kept ≡ take l.keep (begun_behind [] w)
   pub begun : l.begun ≡ has_some (begun_behind [] w)
 
--- a piece was read behind w: the lines that it ends were put behind others
+-- a piece was read after w: the lines that it ends were added
 pub record ReadsLines (w piece : List ℕ) (l : BegunLine)
     (before after : List (List ℕ)) : Type 0 where
   pub ended : after ≡ before ++ fronts_of l.keep (lines_behind (begun_behind [] w) piece)

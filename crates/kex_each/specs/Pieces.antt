@@ -10,13 +10,13 @@ pub record LineReader : Type 0 where
   pub plans : List StagePlan
   pub begun : BegunLine
 
--- so many bytes of a line are all that its answer rests on: as many as the first stage takes, and
+-- this many bytes of a line are all that its answer rests on: as many as the first stage takes, and
 -- one more
 abbrev pub IsEnough : ℕ → List StagePlan → Type 0
 IsEnough keep [] = ⊥
 IsEnough keep (p ∷ ps) = keep ≡ p.limit + 1
 
--- the answers to these lines were put behind a text
+-- the answers to these lines were added to a text
 pub record WritesAnswers (ps : List StagePlan) (lines : List (List ℕ))
     (before after : List ℕ) : Type 0 where
   pub texts : List (List ℕ)

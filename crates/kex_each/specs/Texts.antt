@@ -1,4 +1,4 @@
--- Texts that are kept one behind the other.
+-- Texts that are kept one after the other.
 use Rattle.std.specs.Prelude.{◌≡◌, ◌≤◌, ◌-◌, ℕ, zero, suc, List, [], ◌∷◌, take, drop}
 
 -- what stands up to each end, from this place on

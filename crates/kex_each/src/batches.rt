@@ -16,7 +16,7 @@ use std::alloc::Global;
 use std::thread::Threads;
 
 /// The answer to a line, with its line feed: what the stages of these plans write for it as their
-/// whole input, of which each takes at most so many bytes; or the line of what they report.
+/// whole input, of which each takes at most `max_input` bytes; or the line of what they report.
 pub fn answer(alloc: Global, plans: &[Plan], line: &[u8], max_input: u64) -> Result<Vec<u8>, Memory>
     requires { AllTell telling.Agreed plans.now }
     ensures { IfOk result (λ text. AnswersLine (λ p w e a. Gives p w e a)
@@ -28,7 +28,7 @@ pub fn answer(alloc: Global, plans: &[Plan], line: &[u8], max_input: u64) -> Res
     Ok(Vec::from_slice(alloc, answers.get(0))?)
 }
 
-/// The answers to lines, in their order. So many workers share the lines out, or as many as there
+/// The answers to lines, in their order. `workers` workers share the lines out, or as many as there
 /// are lines. Part k of the lines, counted from 1, enters the gate as k before its first line, and
 /// leaves it after its last.
 pub fn batch<R: Threads + Sync, G: Gate + Sync>(

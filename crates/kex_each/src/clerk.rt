@@ -21,8 +21,8 @@ use std::alloc::Global;
 use std::marker::Model;
 use std::mem;
 
-/// The stages of a program without a pipe, each of which takes at most so many bytes. They answer
-/// one line after another: each stage begins anew with a line, and none is made anew.
+/// The stages of a program without a pipe, each with a limit to what it takes. They answer one
+/// line after another: each stage begins anew with a line, and none is made anew.
 #[derive(Drop)]
 pub struct Clerk<'p> {
     alloc: Global,
@@ -142,7 +142,7 @@ fn close(alloc: Global, text: &mut Vec<u8>, report: Option<Rejected>) -> Result<
 }
 
 impl<'p> Clerk<'p> {
-    /// The stages with these plans, each of which takes at most so many bytes.
+    /// The stages with these plans, each of which takes at most `max_input` bytes.
     pub fn new(alloc: Global, plans: &'p [Plan], max_input: u64) -> Result<Clerk<'p>, Memory>
         ensures { IfOk result (λ clerk. clerk ≡ plans_within max_input plans.now) }
     {
@@ -161,7 +161,7 @@ impl<'p> Clerk<'p> {
         })
     }
 
-    /// Puts the answer to a line behind others, with its line feed.
+    /// Adds the answer to a line, with its line feed.
     ///
     /// After `Memory` the clerk may only be dropped.
     pub fn answer(&mut self, line: &[u8], out: &mut Texts) -> Result<(), Memory>

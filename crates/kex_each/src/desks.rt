@@ -42,7 +42,7 @@ fn work_one<D: LineDesk, G: Gate>(
     worked
 }
 
-// Of so many lines the share of the first desks: the shares of any two differ by one line at most,
+// Of `lines` lines the share of the first desks: the shares of any two differ by one line at most,
 // and the others have a line each left.
 fn share_of(lines: usize, desks: usize, first: usize) -> usize
     requires { (0 < desks) × (desks ≤ lines) × (first ≤ desks) }
@@ -145,7 +145,7 @@ impl<'p> Model for Desks<'p> {
 }
 
 impl<'p> Desks<'p> {
-    /// So many desks, each with the stages of these plans, of which each takes at most so many
+    /// `count` desks, each with the stages of these plans, of which each takes at most `max_input`
     /// bytes.
     pub fn new(
         alloc: Global,
@@ -181,7 +181,7 @@ impl<'p> Desks<'p> {
         answer_in_parts(rt, gate, lines, &mut self.desks)
     }
 
-    /// Puts the answers behind a text.
+    /// Adds the answers to a text.
     pub fn write_into(&self, out: &mut Vec<u8>) -> Result<(), Memory>
         ensures { OnOk result (out.new.items ≡ out.old.items ++ concat self.now.answers) }
     {
@@ -192,7 +192,7 @@ impl<'p> Desks<'p> {
         Ok(())
     }
 
-    /// Puts a copy of each answer behind others.
+    /// Adds a copy of each answer.
     pub fn unpack_into(&self, alloc: Global, all: &mut Vec<Vec<u8>>) -> Result<(), Memory>
         ensures { OnOk result (map (λ v. v.items) all.new.items
             ≡ map (λ v. v.items) all.old.items ++ self.now.answers) }

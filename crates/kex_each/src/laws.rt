@@ -13,7 +13,7 @@ pub fn begins_lines()
     ensures { (v u : List ℕ) (e : Bool) → BeginsLines v u e }
 {}
 
-/// The answer to a line rests on no byte past the one behind the limit.
+/// The answer to a line rests on no byte past the one after the limit.
 pub fn kept_is_enough()
     ensures { IsKeptEnough }
 {}

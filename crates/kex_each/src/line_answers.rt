@@ -42,7 +42,7 @@ impl<'p> Model for LineAnswers<'p> {
 
 impl<'p> LineAnswers<'p> {
     /// Nothing was read. The lines are answered by the stages of these plans, each of which takes
-    /// at most so many bytes, and so many workers share them.
+    /// at most `max_input` bytes, and are shared among `workers` workers.
     pub fn new(
         alloc: Global,
         plans: &'p [Plan],
@@ -63,7 +63,7 @@ impl<'p> LineAnswers<'p> {
         })
     }
 
-    /// Reads a piece, and puts the answers to the lines that it ends behind a text. Part k of the
+    /// Reads a piece, and adds the answers to the lines that it ends to a text. Part k of the
     /// lines, counted from 1, enters the gate as k and leaves it.
     pub fn read<R: Threads + Sync, G: Gate + Sync>(
         &mut self,
@@ -85,7 +85,7 @@ impl<'p> LineAnswers<'p> {
         self.desks.write_into(out)
     }
 
-    /// The text ends here: the answer to an unfinished line that isn't empty is put behind a text.
+    /// The text ends here: the answer to an unfinished line that isn't empty is added to a text.
     pub fn finish<R: Threads + Sync, G: Gate + Sync>(
         &mut self,
         rt: &R,

@@ -11,7 +11,7 @@ use std::alloc::Global;
 use std::marker::Model;
 
 /// Finds the lines of a text that comes in pieces. A line ends at a line feed, which it hasn't. Of
-/// each so many bytes are kept, from its front; the others are dropped.
+/// each at most `keep` bytes are kept, from its front; the others are dropped.
 ///
 /// Once a call has answered `Memory` it may only be dropped.
 #[derive(Drop)]
@@ -36,7 +36,7 @@ impl Model for Lines {
 }
 
 impl Lines {
-    /// Nothing was read. Of each line so many bytes are kept.
+    /// Nothing was read. Of each line at most `keep` bytes are kept.
     pub fn new(alloc: Global, keep: u64) -> Lines
         ensures begins { IsBegunBehind [] result }
         ensures keep { result.keep ≡ keep }
@@ -79,7 +79,7 @@ impl Lines {
         Ok(())
     }
 
-    /// Reads a piece, and puts the lines that it ends behind others.
+    /// Reads a piece, and adds the lines that it ends.
     pub fn read(&mut self, piece: &[u8], out: &mut Texts) -> Result<(), Memory>
         ensures reads { OnOk result ((w : List ℕ) → IsBegunBehind w self.old
             → ReadsLines w piece.now self.new out.old out.new) }
@@ -94,7 +94,7 @@ impl Lines {
         self.go_on(rest)
     }
 
-    /// The text ends here: an unfinished line that isn't empty is put behind others.
+    /// The text ends here: an unfinished line that isn't empty is added.
     pub fn finish(&mut self, out: &mut Texts) -> Result<(), Memory>
         ensures ended { OnOk result ((w : List ℕ) → IsBegunBehind w self.old
             → out.new ≡ out.old ++ fronts_of self.old.keep (line_if_some (begun_behind [] w))) }
@@ -106,7 +106,7 @@ impl Lines {
         Ok(())
     }
 
-    /// Reads a piece, and puts the lines that it ends behind others, each with room of its own.
+    /// Reads a piece, and adds the lines that it ends, each with room of its own.
     pub fn feed(&mut self, piece: &[u8], out: &mut Vec<Vec<u8>>) -> Result<(), Memory>
         ensures reads { OnOk result ((w : List ℕ) → IsBegunBehind w self.old
             → ReadsLines w piece.now self.new
@@ -118,7 +118,7 @@ impl Lines {
         ended.unpack_into(self.alloc, out)
     }
 
-    /// The text ends here: an unfinished line that isn't empty is put behind others.
+    /// The text ends here: an unfinished line that isn't empty is added.
     pub fn end(&mut self, out: &mut Vec<Vec<u8>>) -> Result<(), Memory>
         ensures ended { OnOk result ((w : List ℕ) → IsBegunBehind w self.old
             → map (λ v. v.items) out.new.items ≡ map (λ v. v.items) out.old.items

@@ -1,4 +1,4 @@
-// Texts one behind the other.
+// Texts one after the other.
 
 ghost use Rattle.std.specs.Prelude.{◌≡◌, ◌<◌, ◌++◌, ◌∷◌, [], OnOk, get_or, length, map};
 ghost use Rattle.std.specs.List.{concat};
@@ -8,7 +8,7 @@ use kex_code::memory::Memory;
 use std::alloc::Global;
 use std::marker::Model;
 
-/// A list of texts, which are kept one behind the other: a text more takes no room of its own.
+/// A list of texts, which are kept one after the other: a text more takes no room of its own.
 #[derive(Drop)]
 pub struct Texts {
     bytes: Vec<u8>,
@@ -73,7 +73,7 @@ impl Texts {
         &self.bytes
     }
 
-    /// Puts a text behind the others.
+    /// Adds a text.
     pub fn push(&mut self, text: &[u8]) -> Result<(), Memory>
         ensures { OnOk result (self.new ≡ self.old ++ text.now ∷ []) }
     {
@@ -91,7 +91,7 @@ impl Texts {
         self.ends.clear();
     }
 
-    /// Puts a copy of each behind others, with room of its own.
+    /// Adds a copy of each, with room of its own.
     pub fn unpack_into(&self, alloc: Global, all: &mut Vec<Vec<u8>>) -> Result<(), Memory>
         ensures { OnOk result (map (λ v. v.items) all.new.items
             ≡ map (λ v. v.items) all.old.items ++ self.now) }
