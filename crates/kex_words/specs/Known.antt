@@ -19,11 +19,11 @@ reach max_input block =
 abbrev pub usual_reach : Reach
 usual_reach = reach 281474976710656 65536
 
--- with rings that have room for so many items
+-- with rings that have room for this many items
 abbrev pub over_rings : ℕ → Reach
 over_rings room = record usual_reach { rings = Some room }
 
--- shared among so many workers
+-- shared among this many workers
 abbrev pub by_workers : ℕ → Reach
 by_workers workers = record usual_reach { workers = workers }
 

@@ -159,9 +159,9 @@ pub record Reach : Type 0 where
   pub rings : Option ℕ
   pub workers : ℕ
 
--- what is written for the bytes of the input: what they mean, by tables of at most so many states,
--- told as early as can be where it is optimal; their code; what they mean as the text of a code; or
--- nothing, where it is only asked whether they have a parse
+-- what is written for the bytes of the input: what they mean, by tables with at most this many
+-- states for a stage, told as early as can be where it is optimal; their code; what they mean as
+-- the text of a code; or nothing, where it is only asked whether they have a parse
 pub data Mode : Type 0 where
   running : (states : ℕ) (optimal : Bool) → Mode
   coding : Mode

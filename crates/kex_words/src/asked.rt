@@ -85,8 +85,8 @@ pub struct LineLimits {
 /// What is written for the bytes of the input.
 #[derive(Clone, Copy, Debug, PartialEq, Eq)]
 pub enum Mode {
-    /// What they mean, by tables of at most so many states. Where it is optimal they tell as early
-    /// as can be what comes of them.
+    /// What they mean, by tables that have at most this many states for a stage. Where it is
+    /// optimal they tell as early as can be what comes of them.
     Run { states: StateLimit, optimal: bool },
     /// Their code, in a program of one stage.
     Code,

@@ -1,4 +1,4 @@
-// The line of a note behind a text.
+// The line of a note after a text.
 ghost use Rattle.std.specs.Prelude.{◌≡◌, ◌++◌, OnOk, Some, None};
 ghost use Rattle.kex_words.specs.Lines.{line_of};
 
@@ -34,7 +34,7 @@ impl Sink for TextSink {
     }
 }
 
-/// Puts the note's line behind a text; of `Nothing`, nothing.
+/// Puts the note's line after a text; of `Nothing`, nothing.
 pub fn push_line(alloc: Global, note: Note, text: &mut Vec<u8>) -> Result<(), AllocError>
     ensures { OnOk result (text.new.items ≡ text.old.items ++ line_of note) }
 {
