@@ -6,7 +6,7 @@ const FIRST: u64 = 2_048;
 /// This many scans and leaps allow for one list more.
 const SCANS: u64 = 64;
 
-/// After this many scans in a row without a leap there is a rest, and after each more.
+/// After more scans than this in a row without a leap there is a rest, and after each more.
 const FRUITLESS: u32 = 16;
 
 /// How many scans are left out in a rest.
