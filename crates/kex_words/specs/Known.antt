@@ -46,10 +46,14 @@ abbrev pub run_lines : List (String × Asked)
 run_lines = ("kex run p", to_run "p" usual_reach)
     ∷ ("kex run p --max-input 3 --block 1", to_run "p" (reach 3 1))
     ∷ ("kex run --block=1048576 --max-input=0 p", to_run "p" (reach 0 1048576))
-    ∷ ("kex run p --states 7 --block 1",
-        ToStream (running 7 false) (codes "p") (reach 281474976710656 1))
-    ∷ ("kex run p --max-input 281474976710656 --states 1048576",
-        ToStream (running 1048576 false) (codes "p") usual_reach)
+    ∷ (
+      "kex run p --states 7 --block 1",
+      ToStream (running 7 false) (codes "p") (reach 281474976710656 1),
+    )
+    ∷ (
+      "kex run p --max-input 281474976710656 --states 1048576",
+      ToStream (running 1048576 false) (codes "p") usual_reach,
+    )
     ∷ ("kex run p --rings 1", to_run "p" (over_rings 1))
     ∷ ("kex run --rings=1048576 p", to_run "p" (over_rings 1048576))
     ∷ ("kex run --workers=1 p", to_run "p" usual_reach)

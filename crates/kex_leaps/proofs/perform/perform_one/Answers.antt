@@ -14,4 +14,4 @@ returns-in_ok-make_place-in-Text-clause-did c =
     let s = state_with c.args.sheet.now c.args.out.now.items c.args.actor.now.holding in
     let text = slice_between piece c.in-Text.from c.in-Text.to in
     subst (λ x. state_with c.put_on.new.sheet c.make_place.new.out.items c.make_place.new.actor.holding ≡ after_act c.args.actor.now.machine.nodes (act_in piece x) s) (sym c.in-Text.is)
-      (wrote c.make_place.new.sheet c.put_on.new.sheet text c.make_place.new.out.items c.make_place.new.actor.holding h.sheet.0 c.put_on.ensures.written ∙ ap (with_bytes text) h.did)
+    (wrote c.make_place.new.sheet c.put_on.new.sheet text c.make_place.new.out.items c.make_place.new.actor.holding h.sheet.0 c.put_on.ensures.written ∙ ap (with_bytes text) h.did)

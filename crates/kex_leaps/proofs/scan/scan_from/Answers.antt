@@ -62,7 +62,6 @@ learn_at-requires-clause-row c =
     let s = (c.in_ok-stop.ensures {u = tt}).scanned r.0 r.1 before in
     row_in m.rows c.in_ok-stop.stop.row s.to s.is
 
-
 pub rounds-preserved-in-Bare : goal.rounds-preserved-in-Bare
 rounds-preserved-in-Bare c =
     let b = c.args.ledger.now in
