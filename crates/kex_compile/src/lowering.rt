@@ -26,7 +26,7 @@ pub(crate) struct Lowering {
     pub(crate) lowered: Lowered,
 }
 
-// The first stage that begins at the node.
+// The number of a stage that begins at the node, if one does.
 fn find_root(roots: &[u32], root: u32) -> Option<usize>
     ensures { MatchOption result (IsAmong roots.now root → ⊥)
         (λ i. HasNumber roots.now root i) }
