@@ -21,15 +21,15 @@ fn answer(alloc: Global, words: &[String]) -> Result<String, AllocError> {
 }
 
 const LINES: &str = r#"
-kex run p => Stream { mode: Run { states: StateLimit { most: 4096 }, optimal: false }, program: "p", limits: RunLimits { max_input: 281474976710656, block: 65536, rings: None, workers: 1 } }
-kex run --block 1 p --max-input 3 => Stream { mode: Run { states: StateLimit { most: 4096 }, optimal: false }, program: "p", limits: RunLimits { max_input: 3, block: 1, rings: None, workers: 1 } }
-kex run --block=+1 --max-input=003 -- -p => Stream { mode: Run { states: StateLimit { most: 4096 }, optimal: false }, program: "-p", limits: RunLimits { max_input: 3, block: 1, rings: None, workers: 1 } }
-kex run  => Stream { mode: Run { states: StateLimit { most: 4096 }, optimal: false }, program: "", limits: RunLimits { max_input: 281474976710656, block: 65536, rings: None, workers: 1 } }
-kex run --rings 4096 p --max-input 3 => Stream { mode: Run { states: StateLimit { most: 4096 }, optimal: false }, program: "p", limits: RunLimits { max_input: 3, block: 65536, rings: Some(Rings { room: 4096 }), workers: 1 } }
-kex run p --workers=64 --optimal => Stream { mode: Run { states: StateLimit { most: 4096 }, optimal: true }, program: "p", limits: RunLimits { max_input: 281474976710656, block: 65536, rings: None, workers: 64 } }
-kex code p => Stream { mode: Code, program: "p", limits: RunLimits { max_input: 281474976710656, block: 65536, rings: None, workers: 1 } }
-kex act p --max-input 3 --block 1 => Stream { mode: Act, program: "p", limits: RunLimits { max_input: 3, block: 1, rings: None, workers: 1 } }
-kex test -- run => Stream { mode: Test, program: "run", limits: RunLimits { max_input: 281474976710656, block: 65536, rings: None, workers: 1 } }
+kex run p => Stream(Stream { mode: Run { states: StateLimit { most: 4096 }, optimal: false }, program: "p", limits: RunLimits { max_input: 281474976710656, block: 65536, rings: None, workers: 1 } })
+kex run --block 1 p --max-input 3 => Stream(Stream { mode: Run { states: StateLimit { most: 4096 }, optimal: false }, program: "p", limits: RunLimits { max_input: 3, block: 1, rings: None, workers: 1 } })
+kex run --block=+1 --max-input=003 -- -p => Stream(Stream { mode: Run { states: StateLimit { most: 4096 }, optimal: false }, program: "-p", limits: RunLimits { max_input: 3, block: 1, rings: None, workers: 1 } })
+kex run  => Stream(Stream { mode: Run { states: StateLimit { most: 4096 }, optimal: false }, program: "", limits: RunLimits { max_input: 281474976710656, block: 65536, rings: None, workers: 1 } })
+kex run --rings 4096 p --max-input 3 => Stream(Stream { mode: Run { states: StateLimit { most: 4096 }, optimal: false }, program: "p", limits: RunLimits { max_input: 3, block: 65536, rings: Some(Rings { room: 4096 }), workers: 1 } })
+kex run p --workers=64 --optimal => Stream(Stream { mode: Run { states: StateLimit { most: 4096 }, optimal: true }, program: "p", limits: RunLimits { max_input: 281474976710656, block: 65536, rings: None, workers: 64 } })
+kex code p => Stream(Stream { mode: Code, program: "p", limits: RunLimits { max_input: 281474976710656, block: 65536, rings: None, workers: 1 } })
+kex act p --max-input 3 --block 1 => Stream(Stream { mode: Act, program: "p", limits: RunLimits { max_input: 3, block: 1, rings: None, workers: 1 } })
+kex test -- run => Stream(Stream { mode: Test, program: "run", limits: RunLimits { max_input: 281474976710656, block: 65536, rings: None, workers: 1 } })
 kex check p => Check { program: "p", states: StateLimit { most: 4096 } }
 kex trial 2 => Trial(TrialLines { count: 2, block: 65536, rings: None, workers: 1 })
 kex trial 2 --rings 1 => Trial(TrialLines { count: 2, block: 65536, rings: Some(Rings { room: 1 }), workers: 1 })
