@@ -8,7 +8,7 @@ use Rattle.std.proofs.lemmas.List.Elements.{All-append, All-cons, All-nil, All-g
 use Rattle.kex_byteset.specs.Sets.{has}
 use Rattle.kex_byteset.specs.Classes.{class_at, class_count, AreAlike, IsNumbered, IsRefinedBy, new_number, number_or, count_with}
 
--- the first n bytes have their new classes, of which there are so many
+-- the first n bytes have their new classes, and `count` is the number of these
 pub record IsBegun (old : List ℕ) (s : List Bool) (new : List ℕ) (n count : ℕ) : Type 0 where
   pub long : length new ≡ 256
   pub few : count ≤ n
@@ -39,7 +39,7 @@ module _ (old : List ℕ) (s : List Bool) (new : List ℕ) (n m : ℕ) (long : l
   before : (i : ℕ) → i < n → class_at more i ≡ class_at new i
   before i lt = get_or-set_other new n i m 0 (omega arith)
 
-  -- what the number of the byte is to be, so that there are then so many
+  -- what class m has to meet as the next byte's, where `now` is the number of classes with it
   record Continues (count now : ℕ) : Type 0 where
     fits : m < now
     grows : count ≤ now

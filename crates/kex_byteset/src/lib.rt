@@ -1,6 +1,6 @@
 //! Sets of bytes, and the classes of bytes that sets do not tell apart.
 //!
-//! Stands on nothing. A set is kept as four words, one bit a byte, and seen as 256 flags; each
+//! Uses no other crate. A set is kept as four words, one bit a byte, and seen as 256 flags; each
 //! call's contract says which bytes its answer has. A partition is seen as the 256 classes;
 //! `refine` says of which sets.
 #![tactic(auto)]

@@ -1,4 +1,4 @@
--- What a reader stands for when it is fed more.
+-- What a reader has read when it is fed more.
 use Rattle.std.proofs.Common.{◌≡◌, ℕ, suc, ◌<◌, ◌≤◌, ◌+◌, Bool, true, false, List, [], ◌∷◌, ◌++◌, ◌⊎◌, ⊎_elim, length, take, drop, get_or, refl, sym, ap, subst, ◌∙◌, append_assoc, append-nil, length-append, arith}
 use Rattle.std.proofs.lemmas.List.{take_all, take_at, take-append-le, take-append-drop, take_more}
 use Rattle.kex_code.specs.declared.symbol.Symbol.{Symbol}
@@ -26,7 +26,7 @@ more_good r n w b c l e g s =
       none = λ e'. cc;
     }
 
--- the text with one byte more, by what was begun
+-- one byte more of the text is one byte more of the symbol that is begun
 text_more : (w : List ℕ) (c : List Symbol) (s t : List ℕ) (b : ℕ) → w ≡ text_of c ++ s → s ++ b ∷ [] ≡ t → w ++ b ∷ [] ≡ text_of c ++ t
 text_more w c s t b e f = ap (λ z. z ++ b ∷ []) e ∙ append_assoc (text_of c) s (b ∷ []) ∙ ap (λ z. text_of c ++ z) f
 
@@ -82,7 +82,7 @@ read_both r m n p q x y z h k = record {
   read = λ w c a. subst (λ s. ReaderHasRead n s (c ++ (h.symbols ++ k.symbols))) (append_assoc w p q) (subst (λ s. ReaderHasRead n ((w ++ p) ++ q) s) (append_assoc c h.symbols k.symbols) (k.read (w ++ p) (c ++ h.symbols) (h.read w c a)));
 }
 
--- what is behind a bad byte is not read
+-- what comes after a bad byte is not read
 pub read_no_more : (r n : CodeReading) (p q : List ℕ) (x y : List Symbol) → n.bad ≡ true → ReadOn r n p x y → ReadOn r n (p ++ q) x y
 read_no_more r n p q x y e h = record {
   symbols = h.symbols;

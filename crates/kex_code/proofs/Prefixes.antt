@@ -84,7 +84,7 @@ more_agree first c codes n k h i =
     back_all Q [] ys h = h
     back_all Q (x ∷ xs) ys h = back_all Q xs ys (All-tail Q x (xs ++ ys) h)
 
--- the first code stands among the codes
+-- the first code is among the codes
 pub all_agree : (codes : List (List Symbol)) (d : List Symbol) (n : ℕ) → 0 < length codes → IsCommonLength (get_or codes 0 d ∷ codes) n → IsCommonLength codes n
 all_agree codes d n some h = record {
   agree = let (g, gn, gs) = h.agree in (g, gn, All-tail (λ z. Begins z g) (get_or codes 0 d) codes gs);

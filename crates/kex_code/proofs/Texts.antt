@@ -26,7 +26,7 @@ clash x y xs ys apart e = absurd (apart (ap (λ z. get_or z 0 0) e))
 tails : (x y : ℕ) (xs ys : List ℕ) → x ∷ xs ≡ y ∷ ys → xs ≡ ys
 tails x y xs ys e = ap (λ z. drop 1 z) e
 
--- what stands behind the text of a code in a code's text is a code's text
+-- where the text of a code begins with that of another, the rest is a code's text too
 pub text_behind : (c d : List Symbol) (s : List ℕ) → IsCode d → text_of d ≡ text_of c ++ s → (e : List Symbol) × IsCode e × (text_of e ≡ s)
 text_behind [] d s k e = (d, k, e)
 text_behind (L ∷ c) [] s k e = cc

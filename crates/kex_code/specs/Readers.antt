@@ -1,4 +1,4 @@
--- What a reader of codes stands for: the bytes that it was fed, and the symbols that it has given.
+-- What a reader of codes has read: the bytes that it was fed, and the symbols that it has given.
 use Rattle.std.specs.Prelude.{◌≡◌, ℕ, suc, Bool, true, false, length, List, ◌++◌, take}
 use Rattle.kex_code.specs.declared.symbol.Symbol.{Symbol}
 use Rattle.kex_code.specs.declared.reader.CodeError.{CodeError}
@@ -14,7 +14,7 @@ pub record CodeReading : Type 0 where
   pub bad : Bool
   pub usable : Bool
 
--- the reader was fed w, and has given c: the whole symbols of the good bytes; the byte behind those
+-- the reader was fed w, and has given c: the whole symbols of the good bytes; the byte after those
 -- is the first with which no code's text begins
 pub record ReaderHasRead (r : CodeReading) (w : List ℕ) (c : List Symbol) : Type 0 where
   pub spells : SpellsCode (take r.good w) c r.begun

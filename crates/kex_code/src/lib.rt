@@ -1,9 +1,9 @@
 //! Codes: lists of choices and of the bytes that were read; their text; and the small lists that
 //! programs are made of.
 //!
-//! Stands on nothing. A `Code` is seen as the list of its symbols, and each call is the list's.
-//! `write_text` writes what `text_of` says; a `CodeReader` gives the whole symbols that the bytes
-//! spell, by `ReaderHasRead`.
+//! Uses no other crate but `thiserror`. A `Code` is seen as the list of its symbols, and each call
+//! is the list's. `write_text` writes what `text_of` says; a `CodeReader` gives the whole symbols
+//! that the bytes spell, by `ReaderHasRead`.
 #![tactic(auto)]
 
 pub mod code;

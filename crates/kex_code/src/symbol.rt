@@ -1,6 +1,6 @@
 // Symbols of codes.
 
-/// What stands in a code: the side of a choice, or the byte that was read.
+/// What a code is made of: the side of a choice, or the byte that was read.
 ///
 /// The output alphabet of the oracle machine of the Kleenex paper (POPL 2016), with the bytes left
 /// in.

@@ -1,4 +1,4 @@
--- All paths on a text, found by trying each move for so many steps. So what survives and what is agreed can be computed.
+-- All paths on a text, found by trying each move for a number of steps. So what survives and what is agreed can be computed.
 use Rattle.std.proofs.Common.{◌≡◌, ℕ, zero, suc, ◌==◌, ◌&&◌, ◌||◌, ◌≤◌, ◌<◌, Bool, true, false, if◌then◌else◌, List, [], ◌∷◌, ◌++◌, ◌⊎◌, inl, inr, ⊎_elim, Option, Some, None, is_some, IsTrue, get_or, map, length, refl, sym, ap, subst, ◌∙◌, arith, append_assoc, length-append, eq-eqb}
 use Rattle.kex_code.specs.declared.symbol.Symbol.{Symbol}
 use Rattle.kex_code.specs.Codes.{bytes_of, Begins, Before, IsAmong}
@@ -323,7 +323,7 @@ module _ (P : Grammar) (root n : ℕ) (w : List ℕ) where
       let at : Q (code_of ks) = of_found (λ js. end_of (start_of P root) js ≡ [] → Q (code_of js)) found ks t h (subst F bytes (is_found P n (start_of P root) [] ks walk tt)) (walk_ends P (start_of P root) [] ks walk) in
       subst Q codes at
 
--- the longest front of a text is the one behind which no text goes on
+-- the longest good front of a text is one whose next byte makes it bad
 pub longest_good : (P : Grammar) (root : ℕ) (v : List ℕ) (b : ℕ) (more : List ℕ) → Viable P root v → (Viable P root (v ++ b ∷ []) → ⊥) → LongestGood (Viable P root) (Says P root) (HasParse P root) (Means P root) (v ++ b ∷ more) v
 longest_good P root v b more good dead = record {
   front = (b ∷ more, refl);

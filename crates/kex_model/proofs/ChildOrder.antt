@@ -1,4 +1,4 @@
--- Nodes that are added stand behind their children.
+-- Nodes that are added come after their children.
 use Rattle.std.proofs.Common.{◌≡◌, List, [], ◌∷◌, ◌++◌, ⊎_elim, length, sym, subst}
 use Rattle.kex_model.specs.declared.program.Node.{Node}
 use Rattle.kex_model.specs.Programs.{HasBelow, IsInOrder}

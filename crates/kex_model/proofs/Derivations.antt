@@ -214,7 +214,7 @@ pub from_accept : {S : Type 0} {k : Step S} → Allows {S = S} accept k → ⊥
 from_accept h = elim h [ ]
 
 module _ (P : Grammar) where
-  -- a walk from a node that is begun to the end is a tree's steps and then a walk from the place behind it
+  -- a walk from a node that is begun to the end is a tree's steps and then a walk from the place after it
   pub record Splits (n : ℕ) (k : Kind) (rest : Place) (ks : List (Step Place)) : Type 0 where
     pub tree : Tree
     pub tail : List (Step Place)

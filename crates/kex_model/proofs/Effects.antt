@@ -27,7 +27,7 @@ appended_none out (b ∷ bs) regs = ap (λ z. record { out = out; buffers = z �
 abbrev with_more : List (List ℕ) → ActingState → ActingState
 with_more more s = record { out = s.out; buffers = more ++ s.buffers; registers = s.registers }
 
--- the steps, and ks behind them, do what the part says: where it stopped, up to buffers that are open
+-- the steps, and ks after them, do what the part says: where it stopped, up to buffers that are open
 abbrev pub DoneBy : Option (List Symbol) → PartMeaning → List (Step Place) → List (Step Place) → List Symbol → List ℕ → List (List ℕ) → Registers → Type 0
 DoneBy None p js ks c out bs regs = (more : List (List ℕ)) × (after_steps (js ++ ks) c (record { out = out; buffers = bs; registers = regs }) ≡ with_more more (after_append p.bytes out bs p.registers))
 DoneBy (Some d) p js ks c out bs regs = after_steps (js ++ ks) c (record { out = out; buffers = bs; registers = regs }) ≡ after_steps ks d (after_append p.bytes out bs p.registers)
@@ -63,7 +63,7 @@ then_does bytes regs' (Some d) f is js c regs first next ks out bs =
 both_do : (p : PartMeaning) (f : List Symbol → Registers → PartMeaning) (is js : List (Step Place)) (c : List Symbol) (regs : Registers) → Does p is c regs → ((d : List Symbol) → Does (f d p.registers) js d p.registers) → Does (then_part p f) (is ++ js) c regs
 both_do p f is js c regs first next = then_does p.bytes p.registers p.rest f is js c regs first next
 
--- behind a step that does nothing
+-- after a step that does nothing
 after_nothing : (rest : Place) (p : PartMeaning) (js : List (Step Place)) (c : List Symbol) (regs : Registers) → Does p js c regs → Does p (went nothing rest ∷ js) c regs
 after_nothing rest p js c regs h = cases p.rest h
   where
@@ -71,7 +71,7 @@ after_nothing rest p js c regs h = cases p.rest h
     cases None h ks out bs = h ks out bs
     cases (Some d) h ks out bs = h ks out bs
 
--- behind a choice
+-- after a choice
 after_choice : (side : _) (x : Symbol) (to : Place) (js : List (Step Place)) (c : List Symbol) (regs : Registers) (f : List Symbol → PartMeaning) → ((d : List Symbol) → Does (f d) js d regs) → Does (part_behind (x ∷ []) c regs f) (chose side to ∷ js) c regs
 after_choice side x to js [] regs f h = λ ks out bs. ([], sym (appended_none out bs regs))
 after_choice side x to js (y ∷ c) regs f h = cases (f c).rest (h c)

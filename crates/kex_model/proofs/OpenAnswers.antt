@@ -1,4 +1,4 @@
--- An answer on open input stands.
+-- What an answer on open input says holds on every continuation.
 use Rattle.std.proofs.Common.{◌≡◌, ℕ, ◌≤◌, ◌<◌, Bool, true, false, List, [], ◌∷◌, ◌++◌, ⊎_elim, None, length, take, drop, refl, sym, ap, ap₂, subst, ◌∙◌, append_assoc, append-nil, length-append, length-take, take-append-drop, arith}
 use Rattle.kex_code.specs.Codes.{Begins}
 use Rattle.kex_model.specs.Answers.{Why, at_byte, at_end, at_limit, Answer, stopped_answer, LongestGood, Answers, bad_byte, too_long, cut_off, whole, still_open}

@@ -30,7 +30,7 @@ behind_left m r (y ∷ c) u d regs next e h =
 cut : (a b x c u : List Symbol) → (a ++ b) ++ x ≡ c ++ u → (d : List Symbol) → c ≡ a ++ d → b ++ x ≡ d ++ u
 cut a b x c u e d f = append_cancel_left a _ _ (sym (append_assoc a b x) ∙ e ∙ ap (λ z. z ++ u) f ∙ append_assoc a d u)
 
--- what is left behind two trees that follow each other
+-- what is left after two trees that follow each other
 two_left : (ca cb : List Symbol) (pa : PartMeaning) (pb : List Symbol → Registers → PartMeaning) (c x u d : List Symbol) → ((d' : List Symbol) → ca ++ (cb ++ x) ≡ c ++ u → pa.rest ≡ Some d' → c ≡ ca ++ d') → ((c' d' : List Symbol) → cb ++ x ≡ c' ++ u → (pb c' pa.registers).rest ≡ Some d' → c' ≡ cb ++ d') → (ca ++ cb) ++ x ≡ c ++ u → (then_part pa pb).rest ≡ Some d → c ≡ (ca ++ cb) ++ d
 two_left ca cb pa pb c x u d fa fb e h =
     let q = then_left pa pb d h in
@@ -39,7 +39,7 @@ two_left ca cb pa pb c x u d fa fb e h =
     first ∙ ap (λ z. ca ++ z) second ∙ sym (append_assoc ca cb d)
 
 module _ (P : Grammar) where
-  -- what is left of a code is what stands behind the tree's
+  -- what is left of a code is what comes after the tree's
   pub left_over : {k : Kind} {t : Tree} (c x u d : List Symbol) (regs : Registers) → IsTree P k t → code P k t ++ x ≡ c ++ u → (part_meaning P k t c regs).rest ≡ Some d → c ≡ code P k t ++ d
   left_over c x u d regs one e h = cc
   left_over c x u d regs lit e h = cc
@@ -87,7 +87,7 @@ same_then p q f g e h = cases p.rest refl ∙ ap (λ z. then_part z g) e
         let next : f c p.registers ≡ g c p.registers = h c r (ap (λ z. z.rest) (sym e) ∙ r) in
         rw (r, next)
 
--- two parts behind marks: both stop, or the marks are one
+-- two parts after marks: both stop, or the marks are one
 same_behind : (m n : Symbol) (x y c u v : List Symbol) (regs : Registers) (f g : List Symbol → PartMeaning) → m ∷ x ≡ c ++ u → n ∷ y ≡ c ++ v → ((c' : List Symbol) → m ≡ n → x ≡ c' ++ u → y ≡ c' ++ v → f c' ≡ g c') → part_behind (m ∷ []) c regs f ≡ part_behind (n ∷ []) c regs g
 same_behind m n x y [] u v regs f g e e' h = refl
 same_behind m n x y (z ∷ c) u v regs f g e e' h = h c (cc) (cc) (cc)

@@ -1,4 +1,4 @@
--- What a pipeline answers on open input stands.
+-- What a pipeline answers on open input holds on every continuation.
 use Rattle.std.proofs.Common.{◌≡◌, ℕ, suc, Bool, false, List, [], ◌∷◌, ◌++◌, Option, Some, None, refl, sym, ap, ◌∙◌}
 use Rattle.kex_code.specs.Codes.{Begins}
 use Rattle.kex_model.specs.Answers.{Answer, Stop, Report, later_report, Pipeline}

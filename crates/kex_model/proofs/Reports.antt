@@ -1,4 +1,4 @@
--- A stage's answers are in order, so that a pipeline's stand.
+-- A stage's answers are in order, so that a pipeline's hold on every continuation.
 use Rattle.std.proofs.Common.{◌≡◌, ℕ, Bool, false, List, ◌++◌, Option, None, refl, sym, ap, subst, ◌∙◌}
 use Rattle.kex_code.specs.Codes.{Begins}
 use Rattle.kex_model.specs.Programs.{Grammar}

@@ -39,7 +39,7 @@ pub a_leaf : {A S : Type 0} (t : Labelled A S) (c : List A) → (x : Leaf A S) �
 a_leaf (tip p) c = (record { at = p; code = c }, inl refl)
 a_leaf (fork a l b r) c = let y = a_leaf l (c ++ a) in (y.0, among_left (leaves_of l (c ++ a)) (leaves_of r (c ++ b)) y.0 y.1)
 
--- a code behind c and a label that begins with a symbol
+-- a code that begins with c and a label, where the label begins with a symbol
 pub behind_start : {s : Symbol} (c x d : List Symbol) → StartsWith s x → Begins d (c ++ x) → (m : List Symbol) × (d ≡ c ++ s ∷ m)
 behind_start {s = s} c x d (more, e) (m, f) = (more ++ m, f ∙ append_assoc c x m ∙ ap (λ z. c ++ (z ++ m)) e)
 
@@ -47,7 +47,7 @@ pub rising-append : {S : Type 0} (xs ys : List (CodedPlace S)) → Rising xs →
 rising-append [] ys h h' b = h'
 rising-append (x ∷ xs) ys h h' b = ((λ y i. ⊎_elim (λ j. h.0 y j) (λ j. b x y (inl refl) j) (among-append xs ys y i)), rising-append xs ys h.1 h' (λ x y i j. b x y (inr i) j))
 
--- the leaves of a parted tree stand in order
+-- the leaves of a parted tree are in order
 pub parted_rises : {S : Type 0} (t : Labelled Symbol S) (c : List Symbol) → IsParted t → Rising (leaves_of t c)
 parted_rises (tip p) c h = ((λ y i. absurd i), tt)
 parted_rises (fork a l b r) c h =
@@ -57,7 +57,7 @@ parted_rises (fork a l b r) c h =
     let q = behind_start c b y.code h.2 (leaf_front r (c ++ b) y j) in
     (c, p.0, q.0, p.1, q.1))
 
--- what begins two codes that part behind c begins c
+-- what begins two codes that part after c begins c
 common_front : (c d x y : List Symbol) → Begins (c ++ L ∷ x) d → Begins (c ++ R ∷ y) d → Begins c d
 common_front c d x y p q = ⊎_elim (λ r. r) (λ r. over r.0 r.1) (two_fronts c d (L ∷ x) p.0 p.1)
   where

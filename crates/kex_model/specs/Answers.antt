@@ -68,7 +68,8 @@ abbrev pub stopped_answer : List ℕ → ℕ → Why → Answer
 stopped_answer text at why =
     record { text = text; ended = false; stop = Some (record { at = at; why = why }) }
 
--- a stage by what is viable, what is said, what has a parse and what is meant, over places or nodes
+-- a stage, given what is viable, what is said, what has a parse and what is meant, over places or
+-- nodes
 module _ (CanGoOn : List ℕ → Type 0) (Says' : List ℕ → List ℕ → Type 0) (Parsed : List ℕ → Type 0)
     (Means' : List ℕ → List ℕ → Type 0) where
   -- the longest front of a text from which it can go on

@@ -55,7 +55,7 @@ pub record Grows (P : Grammar) (root : ℕ) (w v : List ℕ) : Type 0 where
 abbrev pub AnswersGrow : Type 0
 AnswersGrow = (P : Grammar) (root : ℕ) (w v : List ℕ) → Grows P root w v
 
--- the text on open input is a front of that on every continuation, and a stop stands, with the same
+-- the text on open input is a front of that on every continuation, and a stop stays, with the same
 -- text
 pub record AnswerStands (P : Grammar) (root limit : ℕ) (w v : List ℕ) (e : Bool)
     (a b : Answer) : Type 0 where
@@ -76,7 +76,7 @@ abbrev pub OneAnswer : Type 0
 OneAnswer = (P : Grammar) (root limit : ℕ) (w : List ℕ) (e : Bool) (a b : Answer)
     → StageAnswers P root limit w e a → StageAnswers P root limit w e b → a ≡ b
 
--- a pipeline's text on open input is a front of that on every continuation, and a report stands,
+-- a pipeline's text on open input is a front of that on every continuation, and a report stays,
 -- with the same text
 pub record PipelineStands (s t : List ℕ) (r q : Option Report) : Type 0 where
   pub text : Begins t s
@@ -125,14 +125,14 @@ entered_places (k ∷ ks) = target_of k ∷ entered_places ks
 abbrev pub EntersNone : {S : Type 0} → List S → List (Step S) → Type 0
 EntersNone {S} places ks = (p : S) → IsAmong places p → ¬ IsAmong (entered_places ks) p
 
--- no step without a byte from a place that was left behind leads elsewhere than to those and to the
--- open ones
+-- no step without a byte from one of the places `left` leads elsewhere than to those and to the
+-- open ones, `begun`
 abbrev pub LeadsWithin : Grammar → List Place → List Place → Type 0
 LeadsWithin P left begun = (p : Place) (k : Step Place) → IsAmong left p → Allows (moves P p) k
     → bytes_of (symbols_of k) ≡ [] → IsAmong left (target_of k) ⊎ IsAmong begun (target_of k)
 
--- then a walk without a byte that enters no open place, and ends elsewhere than at one that was
--- left behind, enters none that was left behind
+-- then a walk without a byte that enters no open place, and ends at none of the places `left`,
+-- enters none of them
 abbrev pub LeftBehind : Type 0
 LeftBehind = (P : Grammar) (left begun : List Place) → LeadsWithin P left begun
     → (p q : Place) (ks : List (Step Place)) → Walk (moves P) p ks q → bytes_of (code_of ks) ≡ []

@@ -72,7 +72,7 @@ pub data IsPlace (P : Grammar) (root : ℕ) : Place → Type 0 where
       → IsPlace P root (target_of k)
   by_rest : {f : Frame} {p : Place} → IsPlace P root (f ∷ p) → IsPlace P root p
 
--- the steps of a tree of node n of this kind, up to the place behind it
+-- the steps of a tree of node n of this kind, up to the place after it
 abbrev pub steps_of : Grammar → ℕ → Kind → Tree → Place → List (Step Place)
 steps_of P n One leaf rest = went nothing rest ∷ []
 steps_of P n (Lit s) leaf rest = went (append s) rest ∷ []

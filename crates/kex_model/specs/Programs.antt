@@ -22,7 +22,7 @@ abbrev pub IsCount : ℕ → Option ℕ → Type 0
 IsCount min None = Unit {0}
 IsCount min (Some max) = min ≤ max
 
--- the children of node n stand below it
+-- the children of node n are below it
 abbrev pub HasBelow : ℕ → Kind → Type 0
 HasBelow n (Seq l r) = (l < n) × (r < n)
 HasBelow n (Alt l r) = (l < n) × (r < n)

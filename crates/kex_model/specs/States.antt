@@ -6,7 +6,7 @@ use Rattle.kex_model.specs.Labelled.{Shape}
 use Rattle.kex_model.specs.Moves.{Move}
 use Rattle.kex_model.specs.Survivors.{HasShape}
 
--- no item stands twice
+-- no item is there twice
 abbrev pub AllDifferent : {A : Type 0} → List A → Type 0
 AllDifferent [] = Unit {0}
 AllDifferent (x ∷ xs) = (¬ IsAmong xs x) × AllDifferent xs

@@ -162,7 +162,7 @@ pub record PartMeaning : Type 0 where
   pub registers : Registers
   pub rest : Option (List Symbol)
 
--- goes on behind a mark, or stops where the code lacks it
+-- goes on after a mark, or stops where the code lacks it
 abbrev pub part_behind : List Symbol → List Symbol → Registers → (List Symbol → PartMeaning)
     → PartMeaning
 part_behind [] c regs next = next c

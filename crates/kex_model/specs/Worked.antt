@@ -145,7 +145,7 @@ abbrev pub counted_turn : Tree
 counted_turn = pair (inner (byte 120)) leaf
 
 -- the two turns that are needed bear no mark, a third has L, and the end has R unless three turns
--- stand
+-- are taken
 pub record TurnsAreCounted : Type 0 where
   pub two : Parses counted_loop 4 (turn counted_turn (turn counted_turn done)) (120 ∷ 120 ∷ [])
   pub two_code : code_at counted_loop 4 (turn counted_turn (turn counted_turn done))

@@ -11,7 +11,7 @@ pub record Reads : Type 0 where
 abbrev pub no_reads : Reads
 no_reads = record { least = 2 ^ 64 - 1; most = 0; last = 0 }
 
--- One more read asked for this many bytes, and was given so many.
+-- One more read asked for `asked` bytes, and got `given`.
 abbrev pub after_asking : ℕ → ℕ → Reads → Reads
 after_asking asked given r =
     record { least = min r.least asked; most = max r.most asked; last = given }
@@ -33,7 +33,7 @@ abbrev pub Asks : ℕ → Option Reads → Option Reads → Type 0
 Asks room before now = (now ≡ before)
     ⊎ (bounds_of now ≡ option_map (bounds_with room) (bounds_of before))
 
--- How many bytes the last read gave, where that is told, and else the most that it can have given.
+-- How many bytes the last read gave, where that is known, and else the most that it can have given.
 abbrev pub last_given : ℕ → Option Reads → ℕ
 last_given room None = room
 last_given room (Some r) = r.last

@@ -4,8 +4,8 @@ ghost use Rattle.kex_ports.specs.Calls.{none_made, is_failing, after_success, af
 
 use std::marker::Model;
 
-// Which calls fail, by their numbers from 1, and how many were made and failed. A count stands
-// still at its last value.
+// Which calls fail, by their numbers from 1, and how many were made and failed. A count stays at
+// its last value.
 #[derive(Drop)]
 pub(crate) struct Calls {
     fails: Vec<u64>,

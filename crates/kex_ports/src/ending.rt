@@ -6,7 +6,7 @@ ghost use Rattle.kex_ports.specs.Endings.{finished_ending};
 use std::marker::Model;
 
 // How many calls were to finish it, how many writes failed, and whether the last call was to finish
-// it. A count stands still at its last value.
+// it. A count stays at its last value.
 #[derive(Drop)]
 pub(crate) struct Ending {
     finishes: u64,

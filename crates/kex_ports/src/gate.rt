@@ -4,7 +4,7 @@ ghost use Rattle.std.specs.Prelude.{◌≡◌, ◌⊎◌, IsTrue};
 use std::marker::Model;
 use std::sync::atomic::{AtomicBool, Ordering};
 
-/// Is told when a stage begins its work and when it ends it.
+/// Called when a stage begins its work and when it ends it.
 pub trait Gate {
     fn enter(&self, stage: u32);
 

@@ -1,8 +1,8 @@
 //! What the program reaches outside itself: a source of input, a sink for output, a shelf of named
 //! texts and a gate; each of them in memory; and a count of steps.
 //!
-//! Stands on codes, for want of memory alone. The traits' clauses say that a call fails only where
-//! its count of faults rises.
+//! Uses codes, for want of memory alone. The traits' clauses say that a call fails only where its
+//! count of faults rises.
 #![tactic(auto)]
 
 mod asked;

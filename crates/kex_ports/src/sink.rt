@@ -42,9 +42,9 @@ pub trait Sink {
         ensures ending { ending self.new ≡ after_finish (ending self.old) };
 }
 
-/// Output in memory, with room that was made ahead, of which a write takes at most so many bytes.
-/// The calls with these numbers, counted from 1, fail; `finish` is a call. So does a write past the
-/// room.
+/// Output in memory, with room that was made ahead, of which a write takes `per_write` bytes at
+/// most. The calls with these numbers, counted from 1, fail; `finish` is a call. So does a write
+/// past the room.
 #[derive(Drop)]
 pub struct MemSink {
     held: Vec<u8>,
@@ -73,7 +73,7 @@ impl Model for MemSink {
 }
 
 impl MemSink {
-    /// With room for so many bytes.
+    /// With room for this many bytes.
     pub fn new(
         alloc: Global,
         room: usize,

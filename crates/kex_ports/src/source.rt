@@ -41,7 +41,7 @@ fn bytes_from(bytes: &[u8], at: usize) -> &[u8]
     &bytes[at..]
 }
 
-// Copies a front of `from`, of at most so many bytes, and says how many.
+// Copies a front of `from`, of at most `most` bytes, and says how many.
 fn copy_front(from: &[u8], most: usize, buf: &mut [u8]) -> usize
     ensures count { result ≡ min (min (length buf.old) most) (length from.now) }
     ensures bytes { take result buf.new ≡ take result from.now }
@@ -53,7 +53,7 @@ fn copy_front(from: &[u8], most: usize, buf: &mut [u8]) -> usize
     count
 }
 
-/// Bytes in memory, of which a read gives at most so many. The calls with these numbers, counted
+/// Bytes in memory, of which a read gives at most `per_read`. The calls with these numbers, counted
 /// from 1, fail.
 #[derive(Drop)]
 pub struct MemSource {

@@ -1,4 +1,4 @@
--- Blocks put behind blocks, and what one of them gains or loses.
+-- Blocks put after blocks, and what one of them gains or loses.
 use Rattle.std.proofs.Common.{◌≡◌, ◌≤◌, ◌<◌, ⊎_elim, ℕ, zero, suc, ◌+◌, List, [], ◌∷◌, ◌++◌, length, get_or, set, refl, sym, ap, ◌∙◌, append_assoc, append-nil, arith, length-append}
 use Rattle.std.specs.Global.{Vec}
 use Rattle.kex_code.specs.declared.symbol.Symbol.{Symbol}

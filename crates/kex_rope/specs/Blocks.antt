@@ -12,7 +12,7 @@ abbrev pub AreFilled : List (Vec Symbol) → Type 0
 AreFilled [] = Unit {0}
 AreFilled (b ∷ bs) = (0 < length b.items) × AreFilled bs
 
--- so many symbols, in blocks of which each has one; a lone block may be empty
+-- blocks with `count` symbols in all, each with one or more; a lone block may be empty
 pub record AreBlocks (blocks : List (Vec Symbol)) (count : ℕ) : Type 0 where
   pub counted : count ≡ length (symbols_in blocks)
   pub filled : (length blocks ≤ 1) ⊎ AreFilled blocks

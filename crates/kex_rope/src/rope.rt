@@ -19,7 +19,7 @@ const BLOCK: usize = 128;
 // The most symbols that a rope grows to by pushes.
 const MOST: u64 = 1 << 62;
 
-/// A list of symbols in blocks. It can be put behind another without a look at its symbols.
+/// A list of symbols in blocks. It can be put at the end of another without a look at its symbols.
 ///
 /// A rope that was emptied keeps one block for what comes next.
 #[derive(Drop)]
@@ -41,7 +41,7 @@ impl Model for Rope {
     ghost invariant = { λ r. AreBlocks r.blocks r.count };
 }
 
-// A symbol is put behind the last block, or into a new one where that is full.
+// A symbol is put at the end of the last block, or into a new one where that is full.
 fn put(alloc: Global, blocks: &mut LinkedList<Vec<Symbol>>, symbol: Symbol) -> Result<(), Memory>
     ensures added { OnOk result (symbols_in blocks.new ≡ symbols_in blocks.old ++ symbol ∷ []) }
     ensures filled { OnOk result (AreBlocks blocks.old (length (symbols_in blocks.old))
@@ -62,8 +62,8 @@ fn put(alloc: Global, blocks: &mut LinkedList<Vec<Symbol>>, symbol: Symbol) -> R
     Ok(())
 }
 
-// The symbols of the first block are put behind a code, and the block goes. Tells how many they
-// are.
+// The symbols of the first block are put at the end of a code, and the block goes. Tells how many
+// they are.
 fn give_front(blocks: &mut LinkedList<Vec<Symbol>>, code: &mut Code) -> Result<usize, Memory>
     requires { 0 < length blocks.old }
     ensures moved { OnOk result (code.new ++ symbols_in blocks.new
@@ -135,7 +135,7 @@ impl Rope {
         Ok(())
     }
 
-    /// Puts the symbols of another rope behind its own, by moving their blocks, and leaves that one
+    /// Puts the symbols of another rope after its own, by moving their blocks, and leaves that one
     /// empty. Takes no memory, and constant time.
     pub fn append(&mut self, other: &mut Rope)
         requires { length self.old + length other.old < 2 ^ 63 }

@@ -10,7 +10,7 @@ use Rattle.kex_tokens.specs.Lexemes.{is_space, is_letter, is_digit, is_name_byte
 use Rattle.kex_tokens.specs.Scanning.{run, more, Between, literal, regex, block, piece, behind_one, slash, alone, one_or_two, two, single, of_kind, sign_at, lexeme, closing}
 use Rattle.kex_tokens.proofs.Scans.{by_test, apart, cond_yes, cond_no, is_code, or_no, Split, Splits, more_splits, run_splits, run_long, IsLiteralEnd, so_far, IsInLiteral, literal_splits, AtLeast, more_at_least, literal_long, IsRegexEnd, escaped, regex_splits, regex_long, star_before, IsBlockEnd, block_splits, block_long}
 
--- a lexeme of this piece's kind and length stands at the front
+-- a lexeme of this piece's kind and length is at the front
 unfoldable pub Found : List ℕ → Option SizedLexeme → Type 0
 Found bytes None = Unit {0}
 Found bytes (Some p) = Split bytes p.long (IsLexeme p.lexeme)
@@ -140,7 +140,7 @@ lexeme_found (b ∷ bs) =
     by_test P (b == 47) _ _ (λ e. subst (λ (x : ℕ). Found (x ∷ bs) (slash bs)) (is_code b 47 e) (slash_found bs)) (λ _.
     signs_found b bs)))))
 
--- ---- and whatever lexeme stands there is found, or a longer one
+-- ---- and whatever lexeme is there is found, or a longer one
 
 pub behind_reaches : (n : ℕ) (l : Lexeme) (o : Option ℕ) → AtLeast n o → Reaches l (suc n) (behind_one l o)
 unfolding AtLeast Reaches behind_one

@@ -4,7 +4,7 @@ use Rattle.std.proofs.Math.ListN.{drop_of_length-le}
 use Rattle.std.proofs.lemmas.Bool.{false≢true}
 use Rattle.kex_tokens.specs.Scanning.{run, more, ClosingStep, On, Closed, Wrong, after, closing}
 
--- so many bytes more
+-- a length that is found, with k bytes more
 unfoldable pub added : ℕ → Option ℕ → Option ℕ
 added k None = None
 added k (Some n) = Some (k + n)
@@ -19,7 +19,7 @@ unfolding added
 added-zero None k e = refl
 added-zero (Some n) k e = let q : k + n ≡ n = omega (arith, e) in ap Some q
 
--- the byte at i, and what is behind it
+-- the byte at i, and what comes after it
 pub drop_at_next : (text : List ℕ) (i : ℕ) → i < length text → drop i text ≡ get_or text i 0 ∷ drop (i + 1) text
 drop_at_next text i h = drop-cons text i 0 h ∙ ap (λ (n : ℕ). get_or text i 0 ∷ drop n text) (sym (add-one i))
 

@@ -220,7 +220,7 @@ unfoldable pub star_before : Bool → List ℕ
 star_before true = 42 ∷ []
 star_before false = []
 
--- bytes up to and with the first */, where these stand before them
+-- bytes up to and with the first */, where these come before them
 abbrev pub IsBlockEnd : Bool → List ℕ → Type 0
 IsBlockEnd star w = (v : List ℕ) × NoClose (v ++ 42 ∷ []) × (star_before star ++ w ≡ v ++ 42 ∷ 47 ∷ [])
 

@@ -44,7 +44,7 @@ not false = true
 abbrev pub is_no_feed : ℕ → Bool
 is_no_feed b = not (b == byte.line_feed)
 
--- what may stand behind the \ of a short escape: n, t, r, \ and "
+-- what may come after the \ of a short escape: n, t, r, \ and "
 abbrev pub is_short : ℕ → Bool
 is_short b = (b == byte.letter_n) || (b == byte.letter_t) || (b == byte.letter_r)
     || (b == byte.backslash) || (b == byte.quote)
@@ -103,7 +103,7 @@ IsToken Number bytes = (b : ℕ) × (w : List ℕ) × (is_digit b ≡ true) × A
     × (bytes ≡ b ∷ w)
 IsToken Literal bytes = (is : List LiteralItem) × AreItems is
     × (bytes ≡ byte.quote ∷ items is ++ byte.quote ∷ [])
--- between the slashes stands at least one item, and the first byte there is no *
+-- between the slashes is at least one item, and the first byte there is no *
 IsToken Regex bytes = (b : ℕ) × (w : List ℕ) × (as' : List LiteralAtom) × AreAtoms as'
     × ((b == byte.asterisk) ≡ false) × (atoms as' ≡ b ∷ w)
     × (bytes ≡ byte.slash ∷ b ∷ w ++ byte.slash ∷ [])
@@ -127,7 +127,7 @@ IsToken Arrow bytes = bytes ≡ codes "<-"
 IsToken OpenParen bytes = bytes ≡ codes "("
 IsToken CloseParen bytes = bytes ≡ codes ")"
 
--- */ doesn't stand in these bytes
+-- */ isn't in these bytes
 abbrev pub NoClose : List ℕ → Type 0
 NoClose bytes = (a b : List ℕ) → bytes ≡ a ++ byte.asterisk ∷ byte.slash ∷ b → ⊥
 
@@ -135,18 +135,18 @@ unfoldable pub IsLexeme : Lexeme → List ℕ → Type 0
 IsLexeme Space bytes = (b : ℕ) × (is_space b ≡ true) × (bytes ≡ b ∷ [])
 IsLexeme LineComment bytes = (w : List ℕ) × AreAll is_no_feed w
     × (bytes ≡ byte.slash ∷ byte.slash ∷ w)
--- the first */ behind the /* ends it
+-- the first */ after the /* ends it
 IsLexeme BlockComment bytes = (w : List ℕ) × NoClose (w ++ byte.asterisk ∷ [])
     × (bytes ≡ byte.slash ∷ byte.asterisk ∷ w ++ byte.asterisk ∷ byte.slash ∷ [])
 IsLexeme (Kept kind) bytes = IsToken kind bytes
 
--- this lexeme stands at the front, and no longer one does
+-- this lexeme is at the front, and no longer one is
 pub record IsLongest (bytes : List ℕ) (p : SizedLexeme) : Type 0 where
   pub inside : p.long ≤ length bytes
   pub is : IsLexeme p.lexeme (take p.long bytes)
   pub no_longer : (other : Lexeme) (n : ℕ) → p.long < n → n ≤ length bytes
       → IsLexeme other (take n bytes) → ⊥
 
--- no lexeme stands at the front
+-- no lexeme is at the front
 abbrev pub HasNoLexeme : List ℕ → Type 0
 HasNoLexeme bytes = (any : Lexeme) (n : ℕ) → IsLexeme any (take n bytes) → ⊥

@@ -88,7 +88,7 @@ abbrev pub begins_with : ℕ → List ℕ → Bool
 begins_with c [] = false
 begins_with c (b ∷ bs) = b == c
 
--- behind a /
+-- after a /
 unfoldable pub slash : List ℕ → Option SizedLexeme
 slash bs =
     if begins_with byte.slash bs

@@ -26,7 +26,7 @@ abbrev pub StandsFor : List ℕ → List ℕ → Type 0
 StandsFor spelling bytes = (is : List LiteralItem) × AreItems is
     × (spelling ≡ byte.quote ∷ items is ++ byte.quote ∷ []) × (map item_value is ≡ bytes)
 
--- the number that decimal digits write, where n stands before them
+-- the number that decimal digits write, where those before them write n
 unfoldable pub number_behind : ℕ → List ℕ → ℕ
 number_behind n [] = n
 number_behind n (b ∷ bs) = number_behind (10 * n + (b - byte.digit_0)) bs

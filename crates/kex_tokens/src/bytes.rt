@@ -17,7 +17,7 @@ pub fn is_name_byte(byte: u8) -> bool
     byte.is_ascii_alphabetic() || byte.is_ascii_digit() || byte == b'_'
 }
 
-/// What stands behind the backslash of an escape of two bytes.
+/// What comes after the backslash of an escape of two bytes.
 pub fn is_short(byte: u8) -> bool
     ensures { result ≡ is_short byte }
 {

@@ -1,6 +1,6 @@
 // One byte more of what a byte closes.
 
-/// What a byte does: more has to come, with this known of it; or it closes; or it may not stand
+/// What a byte does: more has to come, with this known of it; or it closes; or it may not come
 /// here.
 #[derive(Clone, Copy, Drop)]
 pub enum ClosingStep<S> {

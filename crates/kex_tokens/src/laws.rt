@@ -1,4 +1,4 @@
-// Laws of cuts: what stands at a place, and what a text is cut into, is one thing.
+// Laws of cuts: what is at a place, and what a text is cut into, is one thing.
 
 ghost use Rattle.std.specs.Prelude.{◌≡◌, ℕ, List};
 ghost use Rattle.kex_tokens.specs.declared.lexeme.SizedLexeme.{SizedLexeme};

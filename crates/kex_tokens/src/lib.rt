@@ -1,7 +1,7 @@
 //! Tokens of a program text: the longest at each place, with white space and comments dropped.
 //!
-//! Stands on no other crate. The contract is that of `tokens`: `specs/Texts` says what it answers,
-//! and `specs/Lexemes` what a token is spelled.
+//! Uses no other crate but `thiserror`. The contract is that of `tokens`: `specs/Texts` says what
+//! it answers, and `specs/Lexemes` what a token is spelled.
 #![tactic(auto)]
 
 mod bytes;

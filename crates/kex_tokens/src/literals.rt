@@ -6,7 +6,7 @@ ghost use Rattle.kex_tokens.specs.Scanning.{literal, literal_step};
 use crate::bytes::is_short;
 use crate::closing::ClosingStep;
 
-/// Where in an item of a literal the next byte stands.
+/// Where in an item of a literal the next byte comes.
 #[derive(Clone, Copy, Drop)]
 pub enum InLiteral {
     Between,

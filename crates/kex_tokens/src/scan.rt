@@ -12,7 +12,7 @@ use crate::signs::{has_byte, sign};
 use crate::slashes::{block_length, regex_length};
 use crate::token::TokenKind;
 
-/// This lexeme, of one byte and what stands behind it.
+/// This lexeme, of one byte and what comes after it.
 #[tactic(auto, unfolding(crate::specs::Scanning::behind_one))]
 fn behind_one(lexeme: Lexeme, long: Option<usize>) -> Option<SizedLexeme>
     requires { IfSome long (λ n. n < 2 ^ 63) }
@@ -27,7 +27,7 @@ fn behind_one(lexeme: Lexeme, long: Option<usize>) -> Option<SizedLexeme>
     }
 }
 
-/// What a slash begins: the byte behind it decides.
+/// What a slash begins: the byte after it decides.
 #[tactic(auto, unfolding(crate::specs::Scanning::slash))]
 fn slash(text: &[u8], next: usize) -> Option<SizedLexeme>
     requires { next ≤ length text.now }

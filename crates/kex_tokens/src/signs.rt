@@ -6,7 +6,7 @@ ghost use Rattle.kex_tokens.specs.Scanning.{begins_with, one_or_two, sign_at, si
 use crate::lexeme::{Lexeme, SizedLexeme};
 use crate::token::TokenKind;
 
-/// Whether this byte stands at this place.
+/// Whether this byte is at this place.
 pub fn has_byte(text: &[u8], at: usize, byte: u8) -> bool
     requires { at ≤ length text.now }
     ensures { result ≡ begins_with byte (drop at text.now) }

@@ -65,7 +65,7 @@ pub struct Token {
 impl Token {
     ghost use Rattle.kex_tokens.specs.Texts.{IsSpan};
 
-    /// The bytes of the token, in the text that it stands in.
+    /// The bytes of the token, in the text that it comes from.
     pub fn spelling(self, text: &[u8]) -> &[u8]
         requires { IsSpan text.now self }
         ensures bytes { result.now ≡ slice_range text.now self.from self.to }

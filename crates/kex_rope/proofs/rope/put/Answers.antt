@@ -16,7 +16,7 @@ set_filled (b ∷ []) zero v in_ lt h = (lt, tt)
 set_filled (b ∷ []) (suc i) v in_ lt h = absurd (omega arith)
 set_filled (b ∷ c ∷ bs) i v in_ lt h = ⊎_elim (λ le. absurd (omega arith)) (λ f. filled-set (b ∷ c ∷ bs) i v lt f) h
 
--- a block in whose place stands one with the same symbols
+-- a block is replaced by one with the same symbols
 same_filled : (bs : List (Vec Symbol)) (i : ℕ) (v d : Vec Symbol) → v.items ≡ (get_or bs i d).items → AreFilled bs → AreFilled (set bs i v)
 same_filled [] i v d e h = tt
 same_filled (b ∷ bs) zero v d e h = (subst (λ (z : List Symbol). 0 < length z) (sym e) h.0, h.1)
