@@ -37,7 +37,7 @@ unfoldable pub term_onto : Term → List Entry → List Entry
 term_onto (Last s) es = seq_onto s es
 term_onto (Or s t) es = term_onto t (Ended s ∷ es)
 
--- no prefix stands on top
+-- no prefix is on top
 unfoldable pub IsBase : List Entry → Type 0
 IsBase [] = Unit {0}
 IsBase (Mark ∷ es) = Unit {0}
@@ -97,7 +97,7 @@ term_back (Or s t) es h = term_back t (Ended s ∷ es) tt
 
 -- ---- inside a definition
 
--- once a pre has ended these entries stand open
+-- once a pre has ended these entries are open
 unfoldable pub Settles : Mode → List Entry → List Entry → Type 0
 Settles Ready es fs = es ≡ fs
 Settles (After a) es fs = with_pre (Once a) es ≡ fs

@@ -44,7 +44,7 @@ feed x e = ap (λ (y : ℕ). y == 10) e
 no_feed : (x : ℕ) → (x ≡ 10 → ⊥) → (x == 10) ≡ false
 no_feed x n = grind (arith, n)
 
--- behind a line feed, and behind another byte
+-- after a line feed, and after another byte
 pub feeds_feed : (text : List ℕ) (k : ℕ) → k < length text → get_or text k 0 ≡ 10 → feeds (take (k + 1) text) ≡ suc (feeds (take k text))
 feeds_feed text k h e = feeds_more text k h ∙ ap (λ (t : Bool). if t then suc (feeds (take k text)) else feeds (take k text)) (feed (get_or text k 0) e)
 

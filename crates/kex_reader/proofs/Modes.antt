@@ -1,4 +1,4 @@
--- The machine's mode, by what the code waits for; parts and counts.
+-- The machine's mode, for each thing that the code waits for; parts and counts.
 use Rattle.std.proofs.Common.{◌≡◌, ℕ, ◌+◌, ◌<◌, Bool, true, false, List, [], ◌∷◌, ◌++◌, inl, inr, length, Option, Some, None, Result, Ok, Err, refl, sym, ap, ◌∙◌, subst, arith, length-append}
 use Rattle.std.specs.Prelude.{IfOk, OnOk}
 use Rattle.std.proofs.lemmas.Option.{slice_get_within}
@@ -241,7 +241,7 @@ count_notes b (CountOn d) cs o from k f = absurd k
 count_notes b (CountRead p) cs o from k f = f p k
 count_notes b CountWrong cs o from k f = absurd k
 
--- an atom that stands alone, where its count is bad
+-- an atom alone, where its count is bad
 pub bad_pre : (made : Made) (at : ℕ → ℕ) (n i : ℕ) (b : Bounds) (a : Atom) (p : Postfix) (lazy : Bool) → are_bad b ≡ true → HoldsTurns made b p → ShowsAtom a made at n i → ShowsPre (Turns a p lazy) made at n i
 unfolding ShowsPre
 bad_pre made at n i b a p lazy bad h s = (atom_within a made at n i s, n, λ e. absurd (h.1 (sym (bad_bounds b p h.0) ∙ bad) e), s)

@@ -262,7 +262,7 @@ pub head_define : (h : Header) (n : List ℕ) (k : TokenKind) (b : List ℕ) →
 unfolding head_read
 head_define h n k b e = ap (λ (x : TokenKind). head_read h n (word x b)) e
 
--- a state, by what the code waits for
+-- the machine's state, for each thing that the code waits for
 module _ (a : Made) (at : ℕ → ℕ) (fs : List TermConstruct) (ds : List Root) (ss : List Start) where
   pub state_begin : (s : State) → ShowsState a at fs ds ss phases.Begin s → (s ≡ Begin) × (fs ≡ []) × (ds ≡ []) × (ss ≡ [])
   unfolding ShowsState
@@ -409,7 +409,7 @@ next_wrong_steps b at gs old mid new us h done name n from to' base faults.Memor
 next_wrong_steps b at gs old mid new us h done name n from to' base faults.Wrong None en = tt
 next_wrong_steps b at gs old mid new us h done name n from to' base faults.Wrong (Some t) en = absurd en
 
--- what stands of a term is as long as it
+-- entries that make a term are as long as it
 pub whole_long : (es : List Entry) (t : Term) → whole_term (take_term es) ≡ Some t → length (entries es) ≡ length (term t)
 unfolding whole_term Spelled entries
 whole_long es t e = go (take_term es) (term_taken es) e

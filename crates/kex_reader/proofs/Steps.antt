@@ -1,4 +1,4 @@
--- From a word's kind to the machine's step, and from what the code did to the state that it stands for.
+-- From a word's kind to the machine's step, and from what the code did to the state that it shows.
 use Rattle.std.proofs.Common.{◌≡◌, ℕ, ◌+◌, ◌<◌, Bool, true, false, List, [], ◌∷◌, ◌++◌, length, Option, Some, None, Result, Ok, Err, refl, sym, ap, ◌∙◌, subst, arith, length-append}
 use Rattle.std.specs.Prelude.{bytes_eq, codes, if◌then◌else◌, IfOk, IfErr, OnOk, IsErrAnd}
 use Rattle.kex_tokens.specs.declared.token.TokenKind.{TokenKind}
@@ -85,7 +85,7 @@ module _ (made : Made) (at : ℕ → ℕ) (base : ℕ) (fs : List TermConstruct)
   unfolding ShowsMode
   turned es part b x p h e s t = stood (waits.Turned part b) (Turned x p) es h (e, s, t)
 
-  -- an atom begins to take so many turns
+  -- an atom begins to take turns
   pub begins_turns : (es : List Entry) (w : TermWait) (part : Shown) (b : Bounds) (x : Atom) (p : Postfix) → w ≡ waits.Turned part b → ConstructsShow made at base fs es → part.at ≡ at (base + length (entries es)) → ShowsAtom x made at part.node (base + length (entries es)) → HoldsTurns made b p → Steps made at base fs (Ok w) (goes (Turned x p) es)
   begins_turns es w part b x p q h e s t = subst (λ (v : TermWait). Steps made at base fs (Ok v) (goes (Turned x p) es)) (sym q) (turned es part b x p h e s t)
 
@@ -239,7 +239,7 @@ unfolding on_close
 unclosed a at base fs gs part None n h = absurd h
 unclosed a at base fs gs part (Some t) n h = unmarked a at base fs gs t.0 t.1 n h.below
 
--- ---- behind an atom
+-- ---- after an atom
 
 module _ (x : Atom) (es : List Entry) (b : List ℕ) where
   pub after_kind : (k j : TokenKind) (o : Option Inside) → k ≡ j → after_atom x es (word j b) ≡ o → after_atom x es (word k b) ≡ o
@@ -305,7 +305,7 @@ put_place at base a x es e =
     let j : base + length (entries es) + length (atom x) ≡ base + length (entries (with_pre (Once x) es)) = omega (arith, put_ends x es) in
     e ∙ ap at j
 
--- ---- behind a name
+-- ---- after a name
 
 module _ (n : List ℕ) (es : List Entry) (b : List ℕ) where
   pub named_kind : (k j : TokenKind) (o : Option Inside) → k ≡ j → after_name n es (word j b) ≡ o → after_name n es (word k b) ≡ o

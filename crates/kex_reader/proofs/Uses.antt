@@ -1,4 +1,4 @@
--- Nothing is spare: what is held, and what comes to stand in a node.
+-- Nothing is spare: what is held, and what comes into a node.
 use Rattle.std.proofs.Common.{◌≡◌, ℕ, ◌<◌, Bool, true, false, List, [], ◌∷◌, ◌++◌, ◌⊎◌, inl, inr, length, Option, None, Result, Ok, Err, refl, sym, ap, ◌∙◌, subst, arith, length-append}
 use Rattle.std.specs.Prelude.{slice_get, IfOk, OnOk}
 use Rattle.std.proofs.lemmas.Bool.{cases_lt}
@@ -107,7 +107,7 @@ body_added a b n e f p = λ z. record { held = λ x h. absurd h; added = go }
     go (NameNumber k) h = inl (subst (λ (ns : List (List ℕ)). k < length ns) e h)
     go (RegisterNumber k) h = inl (subst (λ (ns : List (List ℕ)). k < length ns) f h)
 
--- ---- where it stands in a kind
+-- ---- where it is in a kind
 
 pub in_seq : (l r : ℕ) (x : Numbered) → (x ≡ NodeNumber l) ⊎ (x ≡ NodeNumber r) → InKind (kinds.Seq l r) x
 in_seq l r x (inl e) = subst (λ (y : Numbered). InKind (kinds.Seq l r) y) (sym e) (inl refl)

@@ -11,8 +11,8 @@ use Rattle.kex_reader.specs.Syntax.{Only, Then, Pre, Mute, Into, Once, Turns, At
 use Rattle.kex_reader.specs.Syntax.{Match, Write, Assign, Group, Definition, Header, NoStart}
 use Rattle.kex_reader.specs.Syntax.{Stages, Program, term, seq, pre, atom, header}
 
--- a mark or prefix under so many others, a count, a body under so many, a stage by its number from
--- 1; each with its offset
+-- a mark or prefix under `depth` others, a count, a body under `depth` marks and prefixes, a stage
+-- by its number from 1; each with its offset
 pub data Check : Type 0 where
   Nested : (at depth : ℕ) → Check
   Counted : (at : ℕ) → (postfix : Postfix) → Check
@@ -28,7 +28,7 @@ BodyBreaks body at depth b = BreaksFirst body at depth b
 abbrev pub most_stages : ℕ
 most_stages = 256
 
--- nesting rises too far where as many stand open as may; the stage past the last one that may be
+-- nesting rises too far where as many are open as may be; the stage past the last one that may be
 -- named is one too many
 abbrev pub Breaks : Check → Break → Type 0
 Breaks (Nested at depth) b = (depth ≡ most_depth) × (b ≡ OverLimit at)

@@ -1,5 +1,5 @@
 -- What the code holds of a whole program that is being read, and the state of the machine that it
--- stands for.
+-- shows.
 use Rattle.std.specs.Prelude.{◌≡◌, ℕ, ◌+◌, ◌++◌, ◌∷◌, List, [], length, ◌⊎◌, Option, Some, None}
 use Rattle.std.specs.Prelude.{Result, Ok, Err, IfOk, OnOk}
 use Rattle.kex_model.specs.declared.program.Definition.{Definition as Root}
@@ -60,7 +60,7 @@ StateSteps made at fs ds ss (Err faults.Wrong) (Some s) = ⊥
 abbrev pub SomeState : Made → List TermConstruct → List Root → List Start → Phase → Type 0
 SomeState made fs ds ss phase = (at : ℕ → ℕ) × (s : State) × ShowsState made at fs ds ss phase s
 
--- the term that is left, where nothing stands below it
+-- the term that is left, where nothing is below it
 unfoldable pub whole_term : Option (Term × List Entry) → Option Term
 whole_term None = None
 whole_term (Some (t, [])) = Some t
@@ -87,7 +87,7 @@ Finishes made at ds ss (Err faults.Memory) o = Unit {0}
 Finishes made at ds ss (Err faults.Wrong) None = Unit {0}
 Finishes made at ds ss (Err faults.Wrong) (Some p) = ⊥
 
--- what a reader holds: it stands in no node yet
+-- what a reader holds: it is in no node yet
 abbrev pub InPhase : Phase → Numbered → Type 0
 InPhase (phases.Within head wait) x = (x ≡ NameNumber head.name) ⊎ InWait wait x
 InPhase _ x = ⊥
@@ -140,7 +140,7 @@ abbrev pub ReaderEnds : Reader → Reader → (ℕ → ℕ) → ℕ → Head →
 ReaderEnds old new at base head result o = Ends new.draft at base new.stack old.definitions.items
     new.definitions.items head.name head.at result o
 
--- the offset is that of the word behind what a state has read
+-- the offset is that of the word after what a state has read
 abbrev pub IsBehindState : (ℕ → ℕ) → State → ℕ → Type 0
 IsBehindState at s place = place ≡ at (length (words_read s))
 

@@ -5,7 +5,7 @@ use Rattle.kex_reader.specs.Syntax.{Word, Program, program}
 abbrev pub IsProgram : List Word → Type 0
 IsProgram ws = (p : Program) × (program p ≡ ws)
 
--- some words behind these make a program of them
+-- some words after these make a program of them
 abbrev pub BeginsProgram : List Word → Type 0
 BeginsProgram ws = (more : List Word) × IsProgram (ws ++ more)
 

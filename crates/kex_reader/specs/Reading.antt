@@ -17,8 +17,8 @@ use Rattle.kex_regexp.specs.Postfixes.{count_spelling}
 pub use Rattle.kex_regexp.specs.Postfixes.{Counting, Opened, Low, LowComma, LowHigh, OnlyComma}
 pub use Rattle.kex_regexp.specs.Postfixes.{High, CountStep, CountOn, CountRead, CountWrong}
 
--- what stands open in a definition, the newest first: parentheses, what a bar has ended, what has
--- ended behind it, prefixes
+-- what is open in a definition, the newest first: parentheses, what a bar has ended, what has ended
+-- after it, prefixes
 pub data Entry : Type 0 where
   Mark : Entry
   Ended : (seq : Seq) → Entry
@@ -146,7 +146,7 @@ after_atom a es Question = goes (Turned a Optional) es
 after_atom a es OpenBrace = goes (InCount a Opened) es
 after_atom a es w = begin_pre true (with_pre (Once a) es) w
 
--- behind a postfix: what makes it lazy, or what follows the pre
+-- after a postfix: what makes it lazy, or what follows the pre
 unfoldable pub after_term_turns : Atom → Postfix → List Entry → Word → Option Inside
 after_term_turns a p es Question = goes Ready (with_pre (Turns a p true) es)
 after_term_turns a p es w = begin_pre true (with_pre (Turns a p false) es) w
@@ -213,7 +213,7 @@ unfoldable pub lift : Header → List Definition → List ℕ → Option Inside 
 lift h ds name None = None
 lift h ds name (Some i) = Some (Within h ds name i)
 
--- a definition ends where the next one's head stands
+-- a definition ends where the next one's head comes
 unfoldable pub next_head : Header → List Definition → List ℕ → List ℕ → Term → List Entry
     → Option State
 next_head h ds name n t [] = Some (Within h (ds ++ record { name = name; term = t } ∷ []) n

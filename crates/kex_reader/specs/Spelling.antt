@@ -27,7 +27,7 @@ use Rattle.kex_reader.specs.Uses.{NoneSpare}
 abbrev pub words : List ℕ → List Token → List Word
 words text ts = map (λ t. word t.kind (slice_range text t.from t.to)) ts
 
--- the offset of token number k, and behind the last one the text's length
+-- the offset of token number k, and after the last one the text's length
 abbrev pub offset : List ℕ → List Token → ℕ → ℕ
 offset text ts k = get_or (map (λ t. t.from) ts) k (length text)
 

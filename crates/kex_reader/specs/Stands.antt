@@ -1,5 +1,4 @@
--- What the code holds of a program that is being read, and the state of the machine that it stands
--- for.
+-- What the code holds of a program that is being read, and the state of the machine that it shows.
 use Rattle.std.specs.Prelude.{◌≡◌, ℕ, suc, ◌+◌, ◌<◌, ◌≤◌, Bool, true, false, List, [], ◌∷◌, ◌++◌}
 use Rattle.std.specs.Prelude.{length, Option, Some, None, Result, Ok, Err, IfOk, OnOk, slice_get}
 use Rattle.std.specs.Prelude.{◌⊎◌, if◌then◌else◌}
@@ -211,7 +210,7 @@ Steps made at base fs (Err faults.Memory) o = Unit {0}
 Steps made at base fs (Err faults.Wrong) None = Unit {0}
 Steps made at base fs (Err faults.Wrong) (Some i) = ⊥
 
--- these constructs are those of some entries, and an atom stands on them
+-- these constructs are those of some entries
 abbrev pub SomeConstructs : Made → List TermConstruct → Type 0
 SomeConstructs made fs = (at : ℕ → ℕ) × (base : ℕ) × (es : List Entry)
     × ConstructsShow made at base fs es
@@ -255,7 +254,7 @@ after_asks at i a es Question = []
 after_asks at i a es OpenBrace = []
 after_asks at i a es w = begin_asks at i (with_pre (Once a) es) w
 
--- behind a postfix: what makes it lazy asks nothing
+-- after a postfix: what makes it lazy asks nothing
 abbrev pub turned_asks : (ℕ → ℕ) → ℕ → Atom → Postfix → List Entry → Word → List Check
 turned_asks at i a p es w = begin_asks at i (with_pre (Turns a p false) es) w
 
@@ -278,12 +277,12 @@ asks at i (Named free n) es w = named_asks at i n es w
 asks at i (InCount a c) es w = count_asks (at (i + length (atom a))) (count_step c w)
 asks at i _ es w = []
 
--- ---- what is held: it stands in no node yet
+-- ---- what is held: it is in no node yet
 
 abbrev pub Has : Made → Numbered → Type 0
 Has made x = IsNumberBelow (length made.nodes) (length made.names) (length made.registers) x
 
--- none is lost: what was held before, and what is new, stands in a node now or is held after
+-- none is lost: what was held before, and what is new, is in a node now or is held after
 pub record NoneLost (old new : Made) (From To : Numbered → Type 0) : Type 0 where
   pub held : (x : Numbered) → From x → InNodes new.nodes x ⊎ To x
   pub added : (x : Numbered) → Has new x → Has old x ⊎ (InNodes new.nodes x ⊎ To x)
@@ -341,7 +340,7 @@ StepLosesNone old new fs wait gs result =
 abbrev pub word_of : WordHeld → Word
 word_of w = word w.kind w.spelling.now
 
--- where the constructs show entries, behind which a word stands at this offset
+-- where the constructs show entries, after which a word comes at this offset
 abbrev pub Behind : Made → List TermConstruct → ℕ → ((ℕ → ℕ) → ℕ → List Entry → Type 0) → Type 0
 Behind made fs place Says = (at : ℕ → ℕ) (base : ℕ) (es : List Entry)
     → ConstructsShow made at base fs es → place ≡ at (base + length (entries es)) → Says at base es
@@ -352,7 +351,7 @@ BehindAny made place Says = (at : ℕ → ℕ) (base : ℕ) (fs : List TermConst
     → ConstructsShow made at base fs es → place ≡ at (base + length (entries es))
     → Says at base fs es
 
--- where the constructs show entries, behind which stands an atom with this node
+-- where the constructs show entries, after which comes an atom with this node
 abbrev pub OnAtom : Made → List TermConstruct → Shown → ((ℕ → ℕ) → ℕ → List Entry → Atom → Type 0)
     → Type 0
 OnAtom made fs part Says = (at : ℕ → ℕ) (base : ℕ) (es : List Entry) (a : Atom)
@@ -368,17 +367,17 @@ OnTermTurned made fs part b Says =
     → ShowsAtom a made at part.node (base + length (entries es)) → HoldsTurns made b p
     → Says at base es a p
 
--- the offset is that of the word behind the atom and its postfix
+-- the offset is that of the word after the atom and its postfix
 abbrev pub IsBehindTurns : (ℕ → ℕ) → ℕ → List Entry → Atom → Postfix → ℕ → Type 0
 IsBehindTurns at base es a p place =
     place ≡ at (base + length (entries es) + length (atom a ++ postfix p))
 
--- the offset is that of the word behind the atom
+-- the offset is that of the word after the atom
 abbrev pub IsBehindAtom : (ℕ → ℕ) → ℕ → List Entry → Atom → ℕ → Type 0
 IsBehindAtom at base es a place = place ≡ at (base + length (entries es) + length (atom a))
 
 -- where constructs and what is waited for are those of a place inside a definition, and a word
--- stands behind it at this offset
+-- comes after it at this offset
 abbrev pub InPlace : Made → List TermConstruct → TermWait → ℕ → ((ℕ → ℕ) → ℕ → Inside → Type 0)
     → Type 0
 InPlace made fs wait place Says = (at : ℕ → ℕ) (base : ℕ) (i : Inside)
@@ -390,7 +389,7 @@ abbrev pub NotesMore : {A E : Type 0} → Option Break → Option Break → Resu
 NotesMore old new result more = (cs : List Check) → NotesLeast cs old
     → OnOk result (NotesLeast (cs ++ more) new)
 
--- where the constructs show entries, behind which this is half read
+-- where the constructs show entries, after which this is half read
 abbrev pub WhereHalfRead : Made → (ℕ → ℕ) → ℕ → List TermConstruct → List Entry → TermWait → Mode
     → Type 0
     → Type 0
@@ -403,7 +402,7 @@ FirstPart old new x result w = (at : ℕ → ℕ) (base : ℕ) (fs : List TermCo
     (append : Bool) (r : List ℕ) → WhereHalfRead old at base fs es (waits.Assigning x)
     (Assigning append r) (Steps new at base fs result (first_part append r es w))
 
--- a word behind a part of an assignment
+-- a word after a part of an assignment
 abbrev pub NextPart : Made → Made → Assignment → Result TermWait TermFault → Word → Type 0
 NextPart old new x result w = (at : ℕ → ℕ) (base : ℕ) (fs : List TermConstruct) (es : List Entry)
     (append : Bool) (r : List ℕ) (p : RegisterPart) (ps : List RegisterPart)

@@ -8,7 +8,7 @@ use Rattle.kex_regexp.specs.Postfixes.{Signs, postfix_spelling, lazy_sign}
 pub use Rattle.kex_regexp.specs.Postfixes.{Postfix, ZeroOrMore, OneOrMore, Optional, Exactly}
 pub use Rattle.kex_regexp.specs.Postfixes.{AtLeast, AtMost, FromTo}
 
--- a token without its place: names, numbers and literals as they stand in the text, a regex without
+-- a token without its place: names, numbers and literals as they are in the text, a regex without
 -- its slashes
 pub data Word : Type 0 where
   Name : (name : List ℕ) → Word
@@ -35,7 +35,7 @@ pub data Word : Type 0 where
   OpenParen : Word
   CloseParen : Word
 
--- what stands between the slashes
+-- what is between the slashes
 abbrev pub between : List ℕ → List ℕ
 between spelling = take (length spelling - 2) (drop 1 spelling)
 

@@ -1,4 +1,4 @@
--- What has a number in a program, where it stands, and that none of it is spare.
+-- What has a number in a program, where it is, and that none of it is spare.
 use Rattle.std.specs.Prelude.{◌≡◌, ℕ, ◌<◌, ◌⊎◌, List, length, Some, slice_get}
 use Rattle.kex_code.specs.Codes.{IsAmong}
 use Rattle.kex_code.specs.declared.piece.Piece.TheVariants as pieces
@@ -52,7 +52,7 @@ InDefinitions ds x = (d : Root) × IsAmong ds d × InDefinition d x
 abbrev pub InStages : List Start → Numbered → Type 0
 InStages ss x = (s : Start) × IsAmong ss s × (x ≡ NameNumber s.name)
 
--- no node, name or register is spare: each stands in a node, in a definition or in a stage
+-- no node, name or register is spare: each is in a node, in a definition or in a stage
 abbrev pub NoneSpare : Grammar → Type 0
 NoneSpare P = (x : Numbered) → IsNumberBelow (length P.nodes) (length P.names) P.registers x
     → InNodes P.nodes x ⊎ (InDefinitions P.definitions x ⊎ InStages P.stages x)

@@ -19,7 +19,7 @@ pub(crate) fn held_number(digits: &[u8]) -> u32
     }
 }
 
-// A word behind what is read of a count, where `number` is its value.
+// A word after what is read of a count, where `number` is its value.
 #[tactic(auto, unfolding(crate::specs::Counts::count_after))]
 pub(crate) fn count_step(count: Count, kind: TokenKind, number: u32) -> CountOutcome
     ensures { result ≡ count_after count kind number }

@@ -47,7 +47,7 @@ use kex_tokens::literal_bytes;
 use kex_tokens::token::TokenKind;
 use std::alloc::{AllocError, AllocFailed, Global};
 
-/// How many parentheses and prefixes may stand open at a place.
+/// How many parentheses and prefixes may be open at a place.
 const DEEPEST: usize = MAX_DEPTH as usize;
 
 /// What the next word belongs to: a member has to come or may, an atom may have a postfix, a
@@ -140,7 +140,7 @@ fn literal<'t>(
     leaf(draft, NodeKind::Lit(Bytes::new(bytes)), word.at)
 }
 
-// What stands between the slashes.
+// What is between the slashes.
 fn between_slashes(spelling: &[u8]) -> &[u8]
     requires { IsToken TokenKind.Regex spelling.now }
     ensures bytes { result.now ≡ between spelling.now }
@@ -191,7 +191,7 @@ fn nest(draft: &mut Draft, depth: usize, at: u32)
     draft.note(Break::OverLimit { at });
 }
 
-// What stands open from here on, where it nests.
+// Opens a construct, which nests.
 fn open<'t>(
     stack: &mut Stack,
     draft: &mut Draft<'t>,
@@ -311,8 +311,8 @@ fn begin<'t>(
     }
 }
 
-// Ends a member with a postfix. Where the count is bad its atom stands alone, and the text is
-// refused in the end.
+// Ends a member with a postfix. Where the count is bad its atom is alone, and the text is refused
+// in the end.
 pub(crate) fn end_turns(
     stack: &mut Stack,
     draft: &mut Draft,
@@ -345,14 +345,14 @@ pub(crate) fn end_turns(
     Ok(())
 }
 
-// An atom that takes so many turns, from `low` on, up to `high`.
+// An atom that takes turns, `low` of them or more, up to `high`.
 fn turned<'t>(item: PlacedNode, low: u32, high: Option<u32>) -> TermWait<'t>
     ensures { result ≡ TermWait.Turned item (record { low = low; high = high }) }
 {
     TermWait::Turned(item, Bounds { low, high })
 }
 
-// A word behind an atom.
+// A word after an atom.
 fn word_after_atom<'t>(
     alloc: Global,
     stack: &mut Stack,
@@ -385,7 +385,7 @@ fn word_after_atom<'t>(
     }
 }
 
-// A word behind a postfix: what makes it lazy, or what follows the member.
+// A word after a postfix: what makes it lazy, or what follows the member.
 fn word_after_turns<'t>(
     alloc: Global,
     stack: &mut Stack,
@@ -420,7 +420,7 @@ fn word_after_turns<'t>(
     }
 }
 
-// A word behind a name.
+// A word after a name.
 fn word_after_name<'t>(
     alloc: Global,
     stack: &mut Stack,
@@ -488,7 +488,7 @@ fn write<'t>(draft: &mut Draft<'t>, at: u32, word: Word<'t>) -> Result<TermWait<
     leaf(draft, NodeKind::Write(register), at)
 }
 
-// The register behind a bracket.
+// The register after a bracket.
 fn bracket<'t>(draft: &mut Draft<'t>, at: u32, word: Word<'t>) -> Result<TermWait<'t>, TermFault>
     ensures held { (fs : List TermConstruct)
         → StepLosesNone draft.old draft.new fs TermWait.Need fs result }
@@ -504,7 +504,7 @@ fn bracket<'t>(draft: &mut Draft<'t>, at: u32, word: Word<'t>) -> Result<TermWai
     Ok(TermWait::BracketName(at, register))
 }
 
-// The sign behind a register.
+// The sign after a register.
 fn sign<'t>(
     alloc: Global,
     at: u32,
@@ -560,7 +560,7 @@ fn part<'t>(
     Ok(TermWait::Assigned(assignment))
 }
 
-// A word behind a part.
+// A word after a part.
 fn word_after_part<'t>(
     alloc: Global,
     draft: &mut Draft<'t>,
@@ -601,7 +601,7 @@ fn note_count(draft: &mut Draft, bounds: Bounds, brace: u32)
     draft.note(Break::BadCount { at: brace });
 }
 
-// A word behind what is read of a count.
+// A word after what is read of a count.
 fn go_on_counting<'t>(
     draft: &mut Draft<'t>,
     item: PlacedNode,

@@ -14,7 +14,7 @@ fn capped(n: u64) -> u32
 }
 
 /// The line and the column of an offset, both from 1: a line ends at a line feed, and a column is a
-/// byte. Numbers of 2^32 and above stand still below it.
+/// byte. Numbers of 2^32 and above are given as 2^32 - 1.
 pub fn place(text: &[u8], at: u32) -> (u32, u32)
     ensures line { result.0 ≡ min (feeds (take at text.now) + 1) 4294967295 }
     ensures column { result.1 ≡ min (behind_feed 0 (take at text.now) + 1) 4294967295 }

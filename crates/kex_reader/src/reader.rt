@@ -50,7 +50,7 @@ fn limit_stages(draft: &mut Draft, before: usize, at: u32)
     draft.note(Break::OverLimit { at });
 }
 
-/// The name that a definition stands under, and its offset.
+/// The name of a definition, and its offset.
 #[derive(Clone, Copy)]
 pub(crate) struct Head {
     pub(crate) name: u32,
@@ -69,8 +69,8 @@ pub(crate) enum Phase<'t> {
     Within(Head, TermWait<'t>),
 }
 
-/// A program that is being read: what stands open in the definition, what is made, and the
-/// definitions and stages so far.
+/// A program that is being read: what is open in the definition, what is made, and the definitions
+/// and stages so far.
 #[derive(Drop)]
 pub(crate) struct Reader<'t> {
     pub(crate) alloc: Global,
@@ -142,7 +142,7 @@ impl<'t> Reader<'t> {
         Ok(Phase::StageRead)
     }
 
-    // The definition that is being read ends with what stands open.
+    // The definition that is being read ends with what is open.
     fn end(&mut self, head: Head) -> Result<(), TermFault>
         requires { SomeConstructs self.old.draft self.old.stack }
         ensures held { OnOk result
@@ -195,7 +195,7 @@ impl<'t> Reader<'t> {
         }
     }
 
-    // Where the next definition begins, behind a name that needn't be a call.
+    // Where the next definition begins, after a name that needn't be a call.
     fn next_definition(&mut self, head: Head, wait: TermWait<'t>) -> Result<Phase<'t>, TermFault>
         requires { SomeInside self.old.draft self.old.stack wait }
         ensures held { ReaderLosesNone self.old (Phase.Within head wait.entry) self.new result }

@@ -1,4 +1,4 @@
-// What stands open in a definition.
+// What is open in a definition.
 
 ghost use Rattle.std.specs.Prelude.{◌≡◌, ℕ, Bool, List, [], ◌∷◌, length, OnOk, IfSome, IfNone};
 ghost use Rattle.std.specs.Prelude.{◌==◌};
@@ -23,7 +23,7 @@ pub(crate) struct PlacedRegister {
 }
 
 /// An open parenthesis; a sequence that a bar has ended; a member of the sequence that is being
-/// read; a prefix that waits for what it stands before.
+/// read; a prefix that waits for what comes after it.
 #[derive(Clone, Copy)]
 pub(crate) enum TermConstruct {
     Mark(u32),
@@ -82,7 +82,7 @@ impl Stack {
         }
     }
 
-    // How many parentheses and prefixes stand open.
+    // How many parentheses and prefixes are open.
     pub(crate) fn depth(&self) -> usize
         ensures { result ≡ open_constructs self.now }
     {

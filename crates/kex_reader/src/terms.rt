@@ -36,7 +36,7 @@ pub(crate) fn put(stack: &mut Stack, draft: &mut Draft, part: PlacedNode) -> Res
     Ok(())
 }
 
-// A member behind a prefix.
+// A member after a prefix.
 fn prefixed(draft: &mut Draft, prefix: Prefix, part: PlacedNode) -> Result<PlacedNode, Memory>
     requires within { part.node < length draft.old.nodes }
     requires register { HasRegisterBelow (length draft.old.registers) prefix }
@@ -60,7 +60,7 @@ fn prefixed(draft: &mut Draft, prefix: Prefix, part: PlacedNode) -> Result<Place
     }
 }
 
-// The newest sequence, unless no member of one stands on top.
+// The newest sequence, unless no member of one is on top.
 pub(crate) fn close_seq(stack: &mut Stack, draft: &mut Draft) -> Result<Option<PlacedNode>, Memory>
     requires { SomeConstructs draft.old stack.old }
     ensures keeps { OnOk result (Keeps draft.old draft.new) }
@@ -82,7 +82,7 @@ pub(crate) fn close_seq(stack: &mut Stack, draft: &mut Draft) -> Result<Option<P
     Ok(Some(seq))
 }
 
-// The newest term, unless no member of a sequence stands on top.
+// The newest term, unless no member of a sequence is on top.
 pub(crate) fn close_term(stack: &mut Stack, draft: &mut Draft) -> Result<Option<PlacedNode>, Memory>
     requires { SomeConstructs draft.old stack.old }
     ensures keeps { OnOk result (Keeps draft.old draft.new) }

@@ -11,7 +11,7 @@ use Rattle.kex_model.proofs.Shapes.{among-append}
 use Rattle.kex_regexp.specs.Grammar.{Regex, Last, Or, Branch, Empty, Then, Piece, Once, Turns, Item, Plain, Escaped, Dot, Set, Group, branch, piece}
 use Rattle.kex_regexp.specs.Shown.{Adds, IsOfBodies, ShowsRegex, ShowsBranch, ShowsPiece, ShowsItem}
 
--- a list with more behind it
+-- a list with more after it
 pub stays_behind : (a more : List Node) (k : ℕ) (v : Node) → slice_get a k ≡ Some v → slice_get (a ++ more) k ≡ Some v
 stays_behind [] more k v h = absurd cc
 stays_behind (x ∷ a) more zero v h = h

@@ -175,7 +175,7 @@ pub start_set : (set : SetSoFar) → IsSetIn set Ready
 unfolding IsSetIn
 start_set set = tt
 
--- what is taken in at a byte is the set behind it
+-- what is taken in at a byte is the set after it
 pub taken : (old new : SetSoFar) (nodes : List Node) (at b : ℕ) (fs : List Construct) (w : Wait) (s : State) → ShowsState nodes at fs w s → IsSetIn old s.mode → ((nodes : List Node) (at : ℕ) (m : Mode) (es : List Entry) → ShowsMode nodes at w m → IsSetIn old m → IsSetAfter new (step_in m es b)) → IsSetAfter new (step s b)
 unfolding step
 taken old new nodes at b fs w s st i f = f nodes (at + length (entries s.entries)) s.mode s.entries st.mode i

@@ -44,7 +44,7 @@ unfolding state_after next
 reads_none [] = refl
 reads_none (b ∷ w) = reads_none w
 
--- ---- escapes, wherever they stand
+-- ---- escapes, wherever they are
 
 pub escape_tail : Escape → List ℕ
 escape_tail Newline = 110 ∷ []
@@ -381,7 +381,7 @@ postfix_reads i es (FromTo n m) h =
 
 -- ---- the whole
 
--- a piece may begin, and these entries stand open then
+-- a piece may begin, and these entries are open then
 unfoldable pub MayBegin : Mode → List Entry → List Entry → Type 0
 MayBegin Ready es fs = es ≡ fs
 MayBegin (After i) es fs = Read (Once i) ∷ es ≡ fs
@@ -437,7 +437,7 @@ unfoldable pub regex_onto : Regex → List Entry → List Entry
 regex_onto (Last b) es = pieces_onto b es
 regex_onto (Or b r) es = regex_onto r (Ended b ∷ es)
 
--- no piece stands on top
+-- no piece is on top
 unfoldable pub IsBase : List Entry → Type 0
 IsBase [] = Unit {0}
 IsBase (Mark ∷ es) = Unit {0}

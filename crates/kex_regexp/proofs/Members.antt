@@ -122,7 +122,7 @@ member_added old new s ms m h span bytes back = record {
   backward = back ∙ ap (λ (t : Bool). t || nat_lt s.last s.first) h.backward ∙ ap (λ (t : Bool). has_backward ms || t) (sym span.backward) ∙ sym (backward_more ms m);
 }
 
--- ---- the members behind a step
+-- ---- the members after a step
 
 unfoldable pub MembersAre : List Member → SetStep → Type 0
 MembersAre w (SetOn n ms p) = ms ≡ w
@@ -204,7 +204,7 @@ set_after set w es (SetOn n ms p) h e = subst (HasMembers set) (sym e) h
 set_after set w es (SetRead n ms) h e = subst (HasMembers set) (sym e) h
 set_after set w es SetWrong h e = tt
 
--- the set behind a byte within a set
+-- the set after a byte within a set
 pub within_set : (old new : SetSoFar) (nodes : List Node) (at : ℕ) (n e : Bool) (p : SetPart) (from : ℕ) (m : Mode) (es : List Entry) (b : ℕ) → ShowsMode nodes at (waits.InSet n e p from) m → IsSetIn old m → ((ms : List Member) (q : SetPhase) → ShowsPart p q → HasMembers old ms → HasMembers new (ms ++ ended_members q b)) → IsSetAfter new (step_in m es b)
 unfolding step_in IsSetIn
 within_set old new nodes at n e p from m es b sh i f =
@@ -302,7 +302,7 @@ pub clear_bad : (set : SetSoFar) (negated t : Bool) → set.backward ≡ false �
 unfolding is_bad_set_so_far
 clear_bad set negated t back e = ap not e ∙ ap (λ (x : Bool). x || not (any_below 256 (λ b. membership negated (has set.bytes b)))) (sym back)
 
--- ---- a byte within a set, by what it ends
+-- ---- a byte within a set, which ends a member or none
 
 pub one_within : (old new : SetSoFar) (p : SetPart) (s : Span) (b : ℕ) → ended_span p b ≡ Some s → ((test : ℕ → Bool) → HasExactly old.bytes test → HasExactly new.bytes (λ c. test c || (nat_le s.first c && nat_le c s.last))) → new.backward ≡ (old.backward || nat_lt s.last s.first) → (ms : List Member) (q : SetPhase) → ShowsPart p q → HasMembers old ms → HasMembers new (ms ++ ended_members q b)
 one_within old new p s b e bytes back ms q sh h =

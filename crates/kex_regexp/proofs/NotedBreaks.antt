@@ -43,7 +43,7 @@ count_notes at _ _ s = absurd s
 
 -- ---- sets
 
--- what is waited for behind a set is a postfix, and within it is no such thing
+-- after a set a postfix is waited for, and within a set it isn't
 pub waits_behind : (nodes : List Node) (at : ℕ) (w : Wait) (i : Item) → ShowsMode nodes at w (After i) → is_after w ≡ true
 unfolding ShowsMode
 waits_behind nodes at waits.Ready i s = absurd s

@@ -1,4 +1,4 @@
--- The answer, by what was noted.
+-- The answer, from the rule that was noted.
 use Rattle.std.proofs.Common.{◌≡◌, ℕ, List, [], Option, Some, None, Result, Ok, Err, refl, sym, ap, ◌∙◌, subst}
 use Rattle.std.specs.Prelude.{IfOk, IfErr}
 use Rattle.kex_code.specs.Codes.{IsAmong}

@@ -183,7 +183,7 @@ pub turned_steps : (nodes : List Node) (base : ℕ) (fs : List Construct) (es : 
 unfolding Steps ShowsMode
 turned_steps nodes base fs es i p r h a x t = record { below = h; mode = (a, subst (λ (y : ℕ). HoldsItem i nodes r.item.node y) a x, t) }
 
--- the item begins to take so many turns
+-- the item begins to take turns
 pub begins_turns : (nodes : List Node) (base : ℕ) (fs : List Construct) (es : List Entry) (i : Item) (p : Postfix) (r : Repetition) (item : Placed) (b : Bounds) → r ≡ record { item = item; bounds = b } → ConstructsShow nodes base (reverse fs) es → item.at ≡ base + length (entries es) → HoldsItem i nodes item.node item.at → HoldsBounds b p → Steps nodes base fs (Ok (waits.Turned r)) (goes (Turned i p) es)
 begins_turns nodes base fs es i p r item b e below a x t = subst (λ (y : Repetition). Steps nodes base fs (Ok (waits.Turned y)) (goes (Turned i p) es)) (sym e) (turned_steps nodes base fs es i p (record { item = item; bounds = b }) below a x t)
 
@@ -233,7 +233,7 @@ begin_none es b p n1 n2 n3 n4 n5 n6 =
     cond_no (is_plain b) _ _ p ∙ cond_no (b == 92) _ _ (ne_eqb b 92 n1) ∙ cond_no (b == 46) _ _ (ne_eqb b 46 n2) ∙ cond_no (b == 91) _ _ (ne_eqb b 91 n3)
     ∙ cond_no (b == 40) _ _ (ne_eqb b 40 n4) ∙ cond_no (b == 124) _ _ (ne_eqb b 124 n5) ∙ cond_no (b == 41) _ _ (ne_eqb b 41 n6)
 
--- ---- behind an item
+-- ---- after an item
 
 pub count_begins_steps : (nodes : List Node) (base : ℕ) (fs : List Construct) (es : List Entry) (i : Item) (part : Placed) (at : ℕ) → ConstructsShow nodes base (reverse fs) es → part.at ≡ base + length (entries es) → at ≡ part.at + length (item i) → HoldsItem i nodes part.node part.at → Steps nodes base fs (Ok (waits.InCount part counts.Opened at)) (goes (InCount i Opened) es)
 unfolding Steps ShowsMode ShowsCount
@@ -274,7 +274,7 @@ pub quest_bounds : HoldsBounds (record { low = 0; high = Some 1 }) Optional
 unfolding low high
 quest_bounds = (refl, refl)
 
--- ---- behind a postfix
+-- ---- after a postfix
 
 pub turned_lazy : (i : Item) (p : Postfix) (es : List Entry) (b : ℕ) → b ≡ 63 → after_turns i p es b ≡ goes Ready (Read (Turns i p true) ∷ es)
 unfolding after_turns
@@ -297,7 +297,7 @@ pub once_ends : (base at from : ℕ) (es : List Entry) (i : Item) → from ≡ b
 unfolding entries entry piece
 once_ends base at from es i a b = omega (arith, a, b, length-append (entries es) (item i))
 
--- ---- the machine's mode, by what the code waits for
+-- ---- the machine's mode, for each thing that the code waits for
 
 pub mode_ready : (nodes : List Node) (at : ℕ) (m : Mode) → ShowsMode nodes at waits.Ready m → m ≡ Ready
 unfolding ShowsMode

@@ -41,7 +41,7 @@ escape_sound (HexOne high) b good = by_test (EscapeGoes (92 ∷ 120 ∷ high ∷
 
 -- ---- sets
 
--- members that may stand so far
+-- members that a set may have so far
 unfoldable pub Fine : Bool → List Member → Type 0
 Fine true ms = AreMembers ms
 Fine false [] = Unit {0}
@@ -80,7 +80,7 @@ unfolding AreMembers
 AreMembers-append [] b h k = k
 AreMembers-append (m ∷ a) b h k = (h.0, AreMembers-append a b h.1 k)
 
--- one more member behind those that have begun
+-- one more member after those that have begun
 pub Fine-more : (negated : Bool) (ms : List Member) (m : Member) → Fine negated ms → HasBegun negated ms → IsMember m → Fine negated (ms ++ m ∷ [])
 unfolding Fine HasBegun AreMembers
 Fine-more true ms m f h k = AreMembers-append ms (m ∷ []) f (k, tt)
@@ -119,7 +119,7 @@ HasBegun-more false (n ∷ ms) m = tt
 
 -- ---- spelling with one byte more
 
--- a set so far in other words: the bytes behind the bracket and the caret
+-- a set so far in other words: the bytes after the bracket and the caret
 pub so_far_more : (negated : Bool) (ms : List Member) (p q : List ℕ) (b : ℕ) → q ≡ p ++ b ∷ [] → 91 ∷ negation negated ++ (members ms ++ q) ≡ (91 ∷ negation negated ++ (members ms ++ p)) ++ b ∷ []
 so_far_more negated ms p q b e =
     ap (λ (w : List ℕ). 91 ∷ w) (ap (λ (w : List ℕ). negation negated ++ (members ms ++ w)) e
@@ -295,7 +295,7 @@ count_sound (High m) b good =
     by_sign (λ s. CountGoes (123 ∷ 44 ∷ m ++ b ∷ []) (count_by true (High m) s)) b
     (λ e. (IsNumber-more m b good e, refl)) (λ _. tt) (λ e. (good, ap (λ (c : ℕ). 123 ∷ 44 ∷ m ++ c ∷ []) (is_code b 125 e))) tt
 
--- ---- what stands open
+-- ---- what is open
 
 unfoldable pub IsEntry : Entry → Type 0
 IsEntry Mark = Unit {0}
@@ -380,7 +380,7 @@ bar_sound t w b k h e c =
     went Ready (Ended t.0 ∷ t.1) (w ++ b ∷ []) (k, h) tt
     (append-nil (entries t.1 ++ (branch t.0 ++ 124 ∷ [])) ∙ ap (λ (x : ℕ). entries t.1 ++ (branch t.0 ++ x ∷ [])) (is_code b 124 c) ∙ sym (append_assoc (entries t.1) (branch t.0) (b ∷ [])) ∙ ap (λ (v : List ℕ). v ++ b ∷ []) e)
 
--- one byte behind the entries
+-- one byte after the entries
 pub one_more : (es : List Entry) (b n : ℕ) → (b == n) ≡ true → entries es ++ n ∷ [] ≡ entries es ++ b ∷ []
 one_more es b n e = ap (λ (x : ℕ). entries es ++ x ∷ []) (is_code b n e)
 

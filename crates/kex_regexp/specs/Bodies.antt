@@ -14,7 +14,7 @@ pub record SpellsRegex (r : Regex) (bytes : List ℕ) : Type 0 where
 abbrev pub IsBody : List ℕ → Type 0
 IsBody bytes = (r : Regex) × SpellsRegex r bytes
 
--- some bytes behind these make a body of them
+-- some bytes after these make a body of them
 abbrev pub BeginsBody : List ℕ → Type 0
 BeginsBody bytes = (more : List ℕ) × IsBody (bytes ++ more)
 
@@ -26,8 +26,8 @@ pub record IsFirstWrong (bytes : List ℕ) (k : ℕ) : Type 0 where
   pub byte : k < length bytes → BeginsBody (take (k + 1) bytes) → ⊥
   pub end : k ≡ length bytes → IsBody bytes → ⊥
 
--- the bytes are a body that stands at an offset under so many marks, and this is the least of the
--- rules that it breaks
+-- the bytes are a body at an offset under `depth` marks, and this is the least of the rules that it
+-- breaks
 abbrev pub BreaksFirst : List ℕ → ℕ → ℕ → Break → Type 0
 BreaksFirst bytes at depth b = (r : Regex) × SpellsRegex r bytes
     × IsLeast (regex_breaks r at depth) b
@@ -38,7 +38,7 @@ fault_of (BadCount place) = faults.BadCount place
 fault_of (BadSet place) = faults.BadSet place
 fault_of (OverLimit place) = faults.OverLimit place
 
--- what a refusal means of a body that stands at an offset under so many marks
+-- what a refusal means of a body at an offset under `depth` marks
 abbrev pub IsRefusal : List ℕ → ℕ → ℕ → RegexFault → Type 0
 IsRefusal bytes at depth (faults.BadRegex place) = (k : ℕ) × (place ≡ at + k) × IsFirstWrong bytes k
 IsRefusal bytes at depth (faults.BadCount place) = BreaksFirst bytes at depth (BadCount place)

@@ -11,7 +11,7 @@ use Rattle.kex_regexp.specs.Grammar.{item}
 use Rattle.kex_regexp.specs.Postfixes.{is_bad_count}
 use Rattle.kex_regexp.specs.Values.{in_set, has_backward, any_below}
 
--- how many parentheses and prefixes may stand open at a place
+-- how many parentheses and prefixes may be open at a place
 abbrev pub most_depth : ℕ
 most_depth = 200
 
@@ -23,8 +23,8 @@ abbrev pub break_if : Bool → Break → List Break
 break_if true b = b ∷ []
 break_if false b = []
 
--- a body at an offset, with so many marks open round it: a bad count stands at its brace, a bad set
--- at its bracket, and a group that is nested too deep at its parenthesis
+-- a body at an offset, with `depth` marks open round it: a bad count is noted at its brace, a bad
+-- set at its bracket, and a group that is nested too deep at its parenthesis
 unfoldable mutual
   pub regex_breaks : Regex → ℕ → ℕ → List Break
   regex_breaks (Last b) at depth = branch_breaks b at depth

@@ -41,7 +41,7 @@ use Rattle.kex_regexp.specs.Shown.{IsNode, IsClass}
 use Rattle.kex_regexp.specs.Values.{end_byte, escaped_byte, has_backward, in_members, in_set}
 use Rattle.kex_tokens.specs.Values.{decimal_value}
 
--- ---- nodes: as in ShowsRegex, but where a count is bad its item stands alone
+-- ---- nodes: as in ShowsRegex, but where a count is bad its item is alone
 
 -- item l with this postfix, which is lazy or not, is node n
 abbrev pub IsTurns : Postfix → Bool → List Node → ℕ → ℕ → ℕ → Type 0
@@ -216,7 +216,7 @@ Ends nodes base (Err faults.Memory) o = Unit {0}
 Ends nodes base (Err faults.Wrong) None = Unit {0}
 Ends nodes base (Err faults.Wrong) (Some r) = ⊥
 
--- these constructs, and an offset behind them, are those of some state
+-- these constructs, and an offset after them, are those of some entries
 abbrev pub SomeConstructs : List Node → List Construct → ℕ → Type 0
 SomeConstructs nodes fs at = (base : ℕ) × (es : List Entry)
     × ConstructsShow nodes base (reverse fs) es × (at ≡ base + length (entries es))
@@ -238,7 +238,7 @@ SomeTurned nodes fs r at = (base : ℕ) × (es : List Entry) × (i : Item) × (p
 
 -- ---- what clauses say
 
--- where the constructs show entries, behind which stands an item with this node
+-- where the constructs show entries, after which comes an item with this node
 abbrev pub OnItem : List Node → List Construct → Placed → (ℕ → List Entry → Item → Type 0) → Type 0
 OnItem nodes constructs placed Says = (base : ℕ) (es : List Entry) (i : Item)
     → ConstructsShow nodes base (reverse constructs) es → placed.at ≡ base + length (entries es)

@@ -46,7 +46,7 @@ pub data SetStep : Type 0 where
   SetRead : (negated : Bool) → (ms : List Member) → SetStep
   SetWrong : SetStep
 
--- between members a member may begin, or behind one the set may end
+-- where a member may begin: its first byte, or the \ of its escape
 unfoldable pub begin_member : Bool → List Member → ℕ → SetStep
 begin_member negated ms b =
     if is_end b then SetOn negated ms (HasEnd (Itself b)) else if b == byte.backslash
@@ -105,8 +105,8 @@ count_step c b = count_by true c (count_sign b)
 
 -- ---- the whole
 
--- what stands open, the newest first: a mark for each parenthesis, and behind it the branches that
--- a bar has ended and the pieces of the branch that is being read
+-- what is open, the newest first: a mark for each parenthesis, and after it the branches that a bar
+-- has ended and the pieces of the branch that is being read
 pub data Entry : Type 0 where
   Mark : Entry
   Ended : (branch : Branch) → Entry
@@ -173,7 +173,7 @@ after_item i es b =
     else if b == byte.open_brace then goes (InCount i Opened) es
     else begin_piece (Read (Once i) ∷ es) b
 
--- behind a postfix: what makes it lazy, or what follows the piece
+-- after a postfix: what makes it lazy, or what follows the piece
 unfoldable pub after_turns : Item → Postfix → List Entry → ℕ → Option State
 after_turns i p es b = if b == byte.question then goes Ready (Read (Turns i p true) ∷ es)
     else begin_piece (Read (Turns i p false) ∷ es) b

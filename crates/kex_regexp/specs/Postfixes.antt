@@ -1,5 +1,5 @@
--- Postfixes, of bodies and of programs: their trees, what they stand for, how an alphabet spells
--- them, and the machine that reads a count in braces.
+-- Postfixes, of bodies and of programs: their trees, what they mean, how an alphabet spells them,
+-- and the machine that reads a count in braces.
 use Rattle.kex_tokens.specs.Values.{decimal_value}
 use Rattle.std.specs.Prelude.{ℕ, Bool, true, false, ◌||◌, List, [], ◌∷◌, ◌++◌, Option, Some, None}
 use Rattle.std.specs.Prelude.{nat_lt}
@@ -14,7 +14,7 @@ pub data Postfix : Type 0 where
   AtMost : (m : List ℕ) → Postfix
   FromTo : (n m : List ℕ) → Postfix
 
--- ---- what they stand for
+-- ---- what they mean
 
 -- the least number of turns
 unfoldable pub low : Postfix → ℕ
@@ -78,7 +78,7 @@ abbrev pub lazy_sign : {A : Type 0} → Signs A → Bool → List A
 lazy_sign s false = []
 lazy_sign s true = s.question ∷ []
 
--- ---- a count, behind its brace
+-- ---- a count, after its brace
 
 pub data Counting : Type 0 where
   Opened : Counting

@@ -1,4 +1,4 @@
--- Which node of a list shows a tree that stands at an offset, whatever the nodes' numbers.
+-- Which node of a list shows a tree at an offset, whatever the nodes' numbers.
 use Rattle.std.specs.Prelude.{◌≡◌, ℕ, ◌+◌, Bool, true, false, List, ◌++◌, length, Some, slice_get}
 use Rattle.std.specs.Prelude.{◌==◌}
 use Rattle.kex_byteset.specs.Sets.{HasExactly}
@@ -54,7 +54,7 @@ IsOfBodies (kinds.Alt l r) = Unit {0}
 IsOfBodies (kinds.Rep body min max lazy) = Unit {0}
 IsOfBodies _ = ⊥
 
--- the old nodes stay, and those behind them are of kinds that bodies have
+-- the old nodes stay, and those after them are of kinds that bodies have
 pub record Adds (old new : List Node) : Type 0 where
   pub more : List Node
   pub is : new ≡ old ++ more

@@ -22,7 +22,7 @@ use crate::wait::{StepFault, Wait};
 use kex_model::builder::Builder;
 use std::alloc::Global;
 
-/// The regex that is left, where nothing stands open.
+/// The regex that is left, where nothing is open.
 #[tactic(auto, using(crate::proofs::Additions::adding))]
 fn end(constructs: &mut Vec<Construct>, into: &mut Builder, at: u32) -> Result<u32, StepFault>
     requires { SomeConstructs into.old constructs.old.items at }

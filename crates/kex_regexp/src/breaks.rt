@@ -7,7 +7,7 @@ ghost use Rattle.kex_regexp.specs.Notes.{lesser_of};
 
 use crate::fault::RegexFault;
 
-/// How many parentheses and prefixes may stand open at a place.
+/// How many parentheses and prefixes may be open at a place.
 pub const MAX_DEPTH: u64 = 200;
 
 /// A rule that is broken, and the offset in the text.

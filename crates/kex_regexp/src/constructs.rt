@@ -1,4 +1,4 @@
-// What stands open, the newest last.
+// What is open, the newest last.
 
 ghost use Rattle.std.specs.Prelude.{◌≡◌, ℕ, ◌+◌, List, length, reverse, IfOk, IfSome, IfNone, ◌++◌};
 ghost use Rattle.std.specs.Prelude.{◌∷◌, ◌⊎◌, []};

@@ -8,7 +8,7 @@ ghost use Rattle.kex_regexp.specs.Outcomes.{are_bad, capped_number, count_outcom
 /// The greatest count that is allowed.
 pub const MAX_COUNT: u32 = 1000;
 
-/// What is known of a count, behind the brace.
+/// What is known of a count, after the brace.
 #[derive(Clone, Copy, Drop)]
 pub enum Count {
     Opened,
@@ -19,14 +19,14 @@ pub enum Count {
     High(u32),
 }
 
-/// How many turns: from so many on, up to so many.
+/// How many turns: at least `low`, and at most `high` if there is one.
 #[derive(Clone, Copy, Drop)]
 pub struct Bounds {
     pub low: u32,
     pub high: Option<u32>,
 }
 
-/// What comes of a count by what follows.
+/// What comes of a count at what follows.
 #[derive(Clone, Copy, Drop)]
 pub enum CountOutcome {
     On(Count),
@@ -34,7 +34,7 @@ pub enum CountOutcome {
     Wrong,
 }
 
-// A digit behind the digits of a count.
+// A digit after the digits of a count.
 #[tactic(auto, unfolding(crate::specs::Outcomes::capped_number, crate::specs::Grammar::is_digit))]
 fn with_digit(value: u32, digit: u8) -> u32
     requires { (48 ≤ digit) × (digit ≤ 57) }

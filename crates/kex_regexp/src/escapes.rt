@@ -4,7 +4,7 @@ ghost use Rattle.std.specs.Prelude.{◌≡◌, ◌<◌};
 ghost use Rattle.kex_regexp.specs.Outcomes.{escape_outcome};
 ghost use Rattle.kex_regexp.specs.Values.{hex_value};
 
-/// What is known of an escape, behind the backslash.
+/// What is known of an escape, after the backslash.
 #[derive(Clone, Copy, Drop)]
 pub enum Escaping {
     Begun,

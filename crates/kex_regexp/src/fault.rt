@@ -9,11 +9,11 @@ pub enum RegexFault {
     /// end, and are none.
     #[error("bad regex at byte {at}")]
     BadRegex { at: u32 },
-    /// At this brace stands a count above `MAX_COUNT`, or a least count above the greatest.
+    /// At this brace is a count above `MAX_COUNT`, or a least count above the greatest.
     #[error("bad count at byte {at}")]
     BadCount { at: u32 },
-    /// At this bracket stands a set with a range whose first byte is above its last, or a set
-    /// without a byte.
+    /// At this bracket is a set with a range whose first byte is above its last, or a set without a
+    /// byte.
     #[error("bad set at byte {at}")]
     BadSet { at: u32 },
     /// This parenthesis raises the nesting above `MAX_DEPTH`.

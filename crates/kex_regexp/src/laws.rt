@@ -18,8 +18,8 @@ pub fn one_tree()
     ensures either { (bytes : List ℕ) (k : ℕ) → IsBody bytes → IsFirstWrong bytes k → ⊥ }
 {}
 
-/// What a node shows it shows still when nodes are added; and what was in range before a body was
-/// read is so behind it.
+/// What a node shows it shows still when nodes are added; and what was in range before nodes were
+/// added is so after it.
 pub fn adding()
     ensures shows { (r : Regex) (old new : List Node) (n at : ℕ) → Adds old new
         → ShowsRegex r old n at → ShowsRegex r new n at }

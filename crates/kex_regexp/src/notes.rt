@@ -39,7 +39,7 @@ fn ends_count(outcome: CountOutcome, brace: u32) -> Option<Break>
     }
 }
 
-/// The rule that this byte breaks, if it breaks one; `next` is what is waited for behind it.
+/// The rule that this byte breaks, if it breaks one; `next` is what is waited for after it.
 #[tactic(auto, unfolding(crate::specs::Notes::byte_break))]
 pub fn noted(wait: Wait, next: Wait, set: &SetSoFar, depth: u64, at: u32, byte: u8) -> Option<Break>
     ensures { result ≡ byte_break wait next set.now depth at byte }
@@ -60,7 +60,7 @@ pub fn noted(wait: Wait, next: Wait, set: &SetSoFar, depth: u64, at: u32, byte: 
     }
 }
 
-// The number of marks behind a byte that may open or close one.
+// The number of marks after a byte that may open or close one.
 #[tactic(auto, unfolding(crate::specs::Notes::depth_after))]
 fn beside(depth: u64, byte: u8) -> u64
     requires { depth + 1 < 2 ^ 64 }
@@ -75,7 +75,7 @@ fn beside(depth: u64, byte: u8) -> u64
     }
 }
 
-/// The number of marks that stand open behind this byte.
+/// The number of marks that are open after this byte.
 #[tactic(auto, unfolding(crate::specs::Notes::next_depth))]
 pub fn deeper(wait: Wait, depth: u64, byte: u8) -> u64
     requires { depth + 1 < 2 ^ 64 }

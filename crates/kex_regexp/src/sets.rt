@@ -1,4 +1,4 @@
-// Sets between brackets: where the next byte stands, and which bytes are in the set so far.
+// Sets between brackets: where the next byte comes, and which bytes are in the set so far.
 
 ghost use Rattle.std.specs.Prelude.{◌≡◌, ◌&&◌, ◌||◌, ℕ, Bool, List, Option, false, not, nat_le};
 ghost use Rattle.std.specs.Prelude.{nat_lt, IfSome, IfNone};
@@ -17,7 +17,7 @@ use crate::escapes::{EscapeOutcome, Escaping, escape};
 use crate::wait::Wait;
 use kex_byteset::ByteSet;
 
-/// Where in a set the next byte stands.
+/// Where in a set the next byte comes.
 #[derive(Clone, Copy, Drop)]
 pub enum SetPart {
     AtStart,
@@ -127,7 +127,7 @@ fn in_last_end(negated: bool, empty: bool, first: u8, escaped: EscapeOutcome) ->
     }
 }
 
-// A byte behind an end, which may begin a range.
+// A byte after an end, which may begin a range.
 #[tactic(auto, unfolding(crate::specs::Outcomes::set_outcome))]
 fn behind_end(negated: bool, empty: bool, end: u8, byte: u8) -> SetOutcome
     ensures { result ≡ set_outcome negated empty (HasEnd end) byte }
@@ -143,7 +143,7 @@ fn behind_end(negated: bool, empty: bool, end: u8, byte: u8) -> SetOutcome
     }
 }
 
-// A byte behind the dash of a range.
+// A byte after the dash of a range.
 #[tactic(auto, unfolding(crate::specs::Outcomes::set_outcome))]
 fn behind_dash(negated: bool, empty: bool, first: u8, byte: u8) -> SetOutcome
     ensures { result ≡ set_outcome negated empty (HasDash first) byte }
@@ -166,7 +166,7 @@ fn behind_dash(negated: bool, empty: bool, first: u8, byte: u8) -> SetOutcome
     }
 }
 
-/// What a byte makes of a set, where it stands in this part of it.
+/// What a byte makes of a set, where it comes in this part of it.
 #[tactic(auto, unfolding(crate::specs::Outcomes::set_outcome))]
 pub fn in_set(negated: bool, empty: bool, part: SetPart, byte: u8) -> SetOutcome
     ensures { result ≡ set_outcome negated empty part byte }

@@ -141,7 +141,7 @@ fn begin(
     }
 }
 
-/// The node of an item that takes so many turns; the item itself, where the count is bad.
+/// The node of an item that takes turns; the item itself, where the count is bad.
 #[tactic(auto, using(crate::proofs::Additions::adding))]
 fn repeated(into: &mut Builder, turns: Repetition, lazy: bool) -> Result<u32, Memory>
     requires { turns.item.node < length into.old }
@@ -167,7 +167,7 @@ fn repeated(into: &mut Builder, turns: Repetition, lazy: bool) -> Result<u32, Me
 }
 
 /// Ends a piece with a postfix. Where the count is bad the body is refused in the end, and the item
-/// stands alone until then.
+/// is alone until then.
 #[tactic(auto, using(crate::proofs::Additions::adding))]
 pub fn end_turns(
     constructs: &mut Vec<Construct>,
@@ -191,7 +191,7 @@ pub fn end_turns(
     Ok(())
 }
 
-/// A byte behind an item.
+/// A byte after an item.
 #[tactic(auto, using(crate::proofs::Additions::adding))]
 fn byte_after_item(
     constructs: &mut Vec<Construct>,
@@ -229,7 +229,7 @@ fn byte_after_item(
     }
 }
 
-/// A byte behind a postfix: the sign that makes it lazy, or what follows the piece.
+/// A byte after a postfix: the sign that makes it lazy, or what follows the piece.
 #[tactic(auto, using(crate::proofs::Additions::adding))]
 fn byte_after_turns(
     constructs: &mut Vec<Construct>,

@@ -8,7 +8,7 @@ use crate::escapes::Escaping;
 use crate::sets::SetPart;
 use kex_code::memory::Memory;
 
-/// An item that takes so many turns.
+/// An item that takes turns, and bounds on how many.
 #[derive(Clone, Copy, Drop)]
 pub struct Repetition {
     pub item: Placed,
@@ -16,7 +16,7 @@ pub struct Repetition {
 }
 
 impl Placed {
-    /// Takes this item so many turns.
+    /// This item, taken from `low` to `high` times, or without end where there is no `high`.
     pub fn turns(self, low: u32, high: Option<u32>) -> Repetition
         ensures { result ≡ record { item = self; bounds = record { low = low; high = high } } }
     {
@@ -47,7 +47,7 @@ pub enum Wait {
         part: SetPart,
         from: u32,
     },
-    /// The count of an item, behind the brace at `brace`.
+    /// The count of an item, after the brace at `brace`.
     InCount {
         item: Placed,
         count: Count,
