@@ -25,7 +25,7 @@ names_more xs ys s (f ∷ p) (r, t, e, g, h) = (r, t, e, get_more xs ys r t g, n
 pub at_more : (xs ys : List Spot) (i : ℕ) (p : Place) → IsAt xs p i → IsAt (xs ++ ys) p i
 at_more xs ys i p (s, g, h) = (s, get_more xs ys i s g, names_more xs ys s p h)
 
--- a spot stands for one place
+-- a spot is that of one place
 pub one_place : (xs : List Spot) (s : Spot) (p q : Place) → SpotIsPlace xs s p → SpotIsPlace xs s q → p ≡ q
 one_place xs s [] [] h k = refl
 one_place xs s [] (g ∷ q) h k = absurd (not_empty g k.0 (sym h ∙ k.2))

@@ -10,21 +10,21 @@ use Rattle.kex_desugar.specs.declared.spot.Spot.TheVariants.{Empty, On}
 use Rattle.kex_desugar.specs.declared.plan.Way.{Way}
 use Rattle.kex_desugar.specs.Plans.{frames}
 
--- the spot stands for the place
+-- the spot is that of the place
 abbrev pub SpotIsPlace : List Spot → Spot → Place → Type 0
 SpotIsPlace spots s [] = s ≡ Empty
 SpotIsPlace spots s (f ∷ p) = (r : ℕ) × (t : Spot) × (s ≡ On f r) × (slice_get spots r ≡ Some t)
     × SpotIsPlace spots t p
 
--- the spot of number i stands for the place
+-- the spot of number i is that of the place
 abbrev pub IsAt : List Spot → Place → ℕ → Type 0
 IsAt spots p i = (s : Spot) × (slice_get spots i ≡ Some s) × SpotIsPlace spots s p
 
--- the spot stands for a place of the stage
+-- the spot is that of a place of the stage
 abbrev pub IsReal : Grammar → ℕ → List Spot → Spot → Type 0
 IsReal P root spots s = (p : Place) × SpotIsPlace spots s p × IsPlace P root p
 
--- each spot is real, and none stands twice
+-- each spot is real, and none is there twice
 pub record Real (P : Grammar) (root : ℕ) (spots : List Spot) : Type 0 where
   pub each : (i : ℕ) (s : Spot) → slice_get spots i ≡ Some s → IsReal P root spots s
   pub once : (i j : ℕ) (s : Spot) → slice_get spots i ≡ Some s → slice_get spots j ≡ Some s → i ≡ j

@@ -23,7 +23,7 @@ pub enum Way {
     Both(Frame, Frame),
 }
 
-// What a place does, by what it puts on its rest.
+// What a place does, and what it puts on its rest.
 #[derive(Drop)]
 pub enum NodePlan {
     Take(ByteSet),

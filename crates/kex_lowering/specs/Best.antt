@@ -20,8 +20,8 @@ module _ (P : Grammar) (root : ℕ) where
     pub longest : (c' : List Symbol) → ((x : List ℕ) (t : Tree) → GreedyParse P root (w ++ x) t
         → Begins (cut_behind (length w) (code_at P root t)) c') → Begins c c'
 
-  -- the text that is said on w where what is best is told: what any tree of a text that begins with
-  -- w does with the symbols of that code
+  -- the text that is said on w by a stage that says what is best: what any tree of a text that
+  -- begins with w does with the symbols of that code
   pub record SaysBestCode (w text : List ℕ) : Type 0 where
     pub best : List Symbol
     pub is_best : BestCode w best
@@ -43,7 +43,7 @@ module _ (P : Grammar) (root : ℕ) where
     pub answers : (limit : ℕ) (w : List ℕ) (e : Bool) (a : Answer)
         → StageAnswersBest limit w e a ↔ BestAnswers m limit w e a
 
-  -- on each text the stage has at most one answer; the text grows, and a stop stands
+  -- on each text the stage has at most one answer; the text grows, and a stop stays
   pub record BestStageStands (limit : ℕ) : Type 0 where
     pub one : (w : List ℕ) (e : Bool) (a b : Answer) → StageAnswersBest limit w e a
         → StageAnswersBest limit w e b → a ≡ b

@@ -43,7 +43,7 @@ pub record SamePaths (P : Grammar) (root : ℕ) (m : Graph) (R : Place → ℕ �
   pub to_place : (w : List ℕ) (n : ℕ) (c : List Symbol) → Reaches (node_moves m.nodes) m.start w n c
       → (p : Place) × R p n × Reaches (moves P) (start_of P root) w p c
 
--- the place is the one that the node stands for
+-- the place is the one of the node's number
 abbrev pub IsPlaceOf : {P : Grammar} {root : ℕ} {m : Graph} → IsMachineOf P root m → Place → ℕ
     → Type 0
 IsPlaceOf is p n = HasNumber is.places p n

@@ -68,8 +68,7 @@ abbrev pub NodesAnswerAsPlaces : Type 0
 NodesAnswerAsPlaces = (P : Grammar) (root : ℕ) (m t : Graph) → IsMachineOf P root m → IsTrimOf m t
     → Carries P root t
 
--- the stage has just so many places: each stands once in a list of this length, and nothing else
--- does
+-- the stage has just `count` places: each is once in a list of this length, and nothing else is
 pub record HasPlaces (P : Grammar) (root count : ℕ) : Type 0 where
   pub places : List Place
   pub long : length places ≡ count

@@ -53,7 +53,7 @@ pub fn nodes_tell_best_as_places()
 {}
 
 /// The answers of a stage that tells what is best: one on each text, with a text that grows and a
-/// stop that stands.
+/// stop that stays.
 pub fn best_stages_stand()
     ensures { BestStagesStand }
 {}

@@ -44,7 +44,7 @@ more_classes xs set n old new refines long h = record {
 }
 
 module _ (P : List Bool → Type 0) where
-  -- of a node before others, by what is known of these
+  -- of a node before others, given the same of these
   at_first : (m : MNode) (nodes : List MNode) → ((q : ℕ) (set : List Bool) (t : ℕ) → All P (sets_of nodes) → node_moves nodes q ≡ read set t → P set) → (p : ℕ) (set : List Bool) (t : ℕ) → All P (sets_of (m ∷ nodes)) → node_moves (m ∷ nodes) p ≡ read set t → P set
   at_first (Read s n) nodes rest zero set t all e = let same : s ≡ set = cc in subst P same (All-head P s (sets_of nodes) all)
   at_first (Read s n) nodes rest (suc q) set t all e = rest q set t (All-tail P s (sets_of nodes) all) e

@@ -1,4 +1,4 @@
--- A tree goes on alike, whatever alphabet its labels are written in, where what stands for labels joins as they do.
+-- A tree goes on alike, whatever alphabet its labels are written in, where the words for labels join as the labels do.
 use Rattle.std.proofs.Common.{◌≡◌, ℕ, Bool, List, [], ◌∷◌, ◌++◌, Option, Some, None, refl, sym, ap, ap₂, subst, ◌∙◌}
 use Rattle.kex_code.specs.declared.symbol.Symbol.{Symbol}
 use Rattle.kex_code.specs.declared.symbol.Symbol.TheVariants.{L, R}

@@ -64,7 +64,7 @@ module _ (moves : ℕ → Move ℕ) (start : ℕ) (trim : IsTrim moves start) wh
       let s = shorten cases_eq moves ks start p walk in
       (code_of s.steps, (s.steps, record { walk = s.walk; waits = waits; once = s.once; reads = s.reads ∙ e }, refl))
 
-  -- a tree is that of a text if its leaves are reached, and each place that is reached stands there with a code that is at most that
+  -- a tree is that of a text if its leaves are reached, and each place that is reached is at one of them with a code that is at most that of the path
   shows : (w : List ℕ) (c : List Symbol) (t : Labelled Symbol ℕ) → ((x : CodedPlace ℕ) → IsAmong (leaves_of t c) x → Reaches moves start w x.at x.code) → ((ks : List (Step ℕ)) (p : ℕ) → IsPath moves start w p ks → (x : CodedPlace ℕ) × IsAmong (leaves_of t c) x × (x.at ≡ p) × AtMost x.code (code_of ks)) → ((x y : CodedPlace ℕ) → IsAmong (leaves_of t c) x → IsAmong (leaves_of t c) y → x.at ≡ y.at → x ≡ y) → IsParted t → HasTree moves start w c t
   shows w c t each all single parted = record {
     lists = record {
@@ -85,7 +85,7 @@ module _ (moves : ℕ → Move ℕ) (start : ℕ) (trim : IsTrim moves start) wh
     adv : Advanced moves b (replicate m false) t a g
     adv = advanced moves b v has.parted (λ n k i. absurd (none_marked m n i))
 
-    -- each waiting place that is reached stands at a leaf
+    -- each waiting place that is reached is at a leaf
     reach : (ks : List (Step ℕ)) (p : ℕ) → IsPath moves start (w ++ b ∷ []) p ks → (x : CodedPlace ℕ) × IsAmong (leaves_if a c) x × (x.at ≡ p) × AtMost x.code (code_of ks)
     reach ks p path =
         let r = cut_walk moves ks (start ∷ []) start p w b [] path.walk path.once path.reads in

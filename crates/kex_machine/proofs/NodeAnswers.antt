@@ -1,4 +1,4 @@
--- A stage's answers over nodes: there is one on each text, they grow, and a stop stands.
+-- A stage's answers over nodes: there is one on each text, they grow, and a stop stays.
 use Rattle.std.proofs.Common.{◌≡◌, ℕ, ◌<◌, Bool, true, false, ◌&&◌, List, [], ◌++◌, None, length, refl, sym, ap, subst, ◌∙◌, append-nil, append_assoc, arith, ⊎_elim, take, length-append}
 use Rattle.std.specs.Prelude.{is_none, IsSome}
 use Rattle.kex_code.specs.declared.symbol.Symbol.{Symbol}

@@ -28,7 +28,7 @@ stays_within g range n lt = cases (get_or g.nodes n Accept) refl
     cases (Do x t) e = subst (λ z. MoveBelow (length g.nodes) z) (sym (here (Do x t) e)) (fits (Do x t) e).0
     cases (Skip t) e = subst (λ z. MoveBelow (length g.nodes) z) (sym (here (Skip t) e)) (fits (Skip t) e)
 
--- the numbers behind the last node lead to the end too
+-- the numbers after the last node lead to the end too
 all_end : (g : Graph) → ((n : ℕ) → n < length g.nodes → LeadsToEnd (node_moves g.nodes) n) → (p : ℕ) → LeadsToEnd (node_moves g.nodes) p
 all_end g ends p = by p (slice_get g.nodes p) refl
   where

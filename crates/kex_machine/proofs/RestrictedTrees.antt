@@ -149,7 +149,7 @@ module _ (g : Graph) (range : IsMachineInRange g.start g.nodes g.registers) (tri
         let text : bytes_of (code_of ks) ≡ w ++ b ∷ [] = ap bytes_of (code_of-append s.0 (took b from.to ∷ from.steps)) ∙ bytes_of-append (code_of s.0) (Byte b ∷ code_of from.steps) ∙ ap (λ z. z ++ b ∷ bytes_of (code_of from.steps)) s.1.reads ∙ ap (λ z. w ++ b ∷ z) from.by.0.1 in
         (ks, record { walk = walk; waits = l.3; once = once_joined ms s.0 (g.start ∷ []) b from.to from.steps s.1.once from.once; reads = text }, code)
 
-    -- a survivor that isn't covered stands there with its code
+    -- a survivor that isn't covered is there with its code
     pub next_there : (p : ℕ) (d : List Symbol) → IsUncovered g (w ++ b ∷ []) p d → IsAmong (leaves_if a c) (record { at = p; code = d })
     next_there p d u = let r = uncovered_from g range trimmed w b p d u in by r.0 r.1 r.0.back r.0.last r.0.once r.0.back_bytes r.0.whole
       where

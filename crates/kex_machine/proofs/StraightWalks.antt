@@ -1,4 +1,4 @@
--- Walks that come back nowhere, walks that part, and walks that are split behind a text.
+-- Walks that come back nowhere, walks that part, and walks that are split after a text.
 use Rattle.std.proofs.Common.{◌≡◌, ℕ, List, [], ◌∷◌, ◌++◌, ◌⊎◌, inl, inr, ⊎_elim, refl, sym, ap, subst, ◌∙◌, append-nil, arith}
 use Rattle.std.proofs.lemmas.Bool.{cases_eq}
 use Rattle.kex_code.specs.declared.symbol.Symbol.{Symbol}
@@ -49,7 +49,7 @@ module _ (moves : ℕ → Move ℕ) where
   pub straight : (ks : List (Step ℕ)) (s t : ℕ) → Walk moves s ks t → Straight s t (bytes_of (code_of ks))
   straight ks s t w = shorten cases_eq moves ks s t w
 
-  -- a walk to a waiting place, split behind a front of its text at a waiting place
+  -- a walk to a waiting place, split after a front of its text at a waiting place
   pub record Split (s t : ℕ) (ks : List (Step ℕ)) (w x : List ℕ) : Type 0 where
     pub front : List (Step ℕ)
     pub at : ℕ

@@ -15,7 +15,7 @@ use Rattle.kex_machine.proofs.StraightWalks.{Straight, straight, Split, split, c
 use Rattle.kex_machine.proofs.TreesThere.{least_code, greedy_of}
 use Rattle.kex_machine.proofs.Ranges.{is_trim}
 
--- a code of at most so many bytes is not cut
+-- a code of at most n bytes is not cut
 pub uncut : (n : ℕ) (c : List Symbol) → length (bytes_of c) ≤ n → cut_behind n c ≡ c
 uncut n [] h = refl
 uncut n (L ∷ c) h = ap (λ z. L ∷ z) (uncut n c h)
@@ -23,7 +23,7 @@ uncut n (R ∷ c) h = ap (λ z. R ∷ z) (uncut n c h)
 uncut zero (Byte b ∷ c) h = absurd (omega (arith, h))
 uncut (suc n) (Byte b ∷ c) h = ap (λ z. Byte b ∷ z) (uncut n c (omega (arith, h)))
 
--- a code is cut behind the bytes of its front
+-- a code is cut after the bytes of its front
 pub cut_at_byte : (c : List Symbol) (b : ℕ) (d : List Symbol) → cut_behind (length (bytes_of c)) (c ++ Byte b ∷ d) ≡ c
 cut_at_byte [] b d = refl
 cut_at_byte (L ∷ c) b d = ap (λ z. L ∷ z) (cut_at_byte c b d)

@@ -54,7 +54,7 @@ module _ (moves : ℕ → Move ℕ) where
   abbrev pub AllMarked : List ℕ → List Bool → Type 0
   AllMarked begun f = (m : ℕ) → IsAmong begun m → Marked f m
 
-  -- the leaf is at p, behind c, and has the code of a walk
+  -- the leaf is where a walk from n leads, and its code is c and then the walk's
   abbrev pub IsLeafBy : ℕ → List Symbol → Leaf Symbol ℕ → List (Step ℕ) → Type 0
   IsLeafBy n c x js = Quiet n js x.at × (x.code ≡ c ++ code_of js)
 

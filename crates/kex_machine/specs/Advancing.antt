@@ -1,5 +1,5 @@
 -- How a tree of places goes on with a byte, over any alphabet that its labels are written in: the
--- symbols of codes, or what stands for them.
+-- symbols of codes, or what is put for them.
 use Rattle.std.specs.Prelude.{◌≡◌, ℕ, ◌<◌, Bool, true, false, List, [], ◌∷◌, get_or, set, length}
 use Rattle.std.specs.Prelude.{Option, Some, None}
 use Rattle.kex_code.specs.declared.symbol.Symbol.{Symbol}
@@ -39,7 +39,7 @@ pub data Advances {A : Type 0} (put : Symbol → A) (input : A) (moves : ℕ →
       → Advances put input moves b f l x g → Advances put input moves b g r y h
       → Advances put input moves b f (fork u l v r) (fork_of (with_prefix u x) (with_prefix v y)) h
 
--- a symbol that stands for itself
+-- a symbol as itself
 abbrev pub itself : Symbol → Symbol
 itself s = s
 

@@ -28,7 +28,7 @@ module _ (g : Graph) where
   abbrev pub left_by : List (Step ℕ) → List Symbol → ActingState
   left_by ks c = after_steps ks c (start_state g.registers)
 
-  -- the text that is said on w where a code is told of w: what a run on a text that begins with w
+  -- the text that is said on w where a code is found for w: what a run on a text that begins with w
   -- does with the symbols of that code
   pub record SaysTold (Told : List ℕ → List Symbol → Type 0) (w text : List ℕ) : Type 0 where
     pub agreed : List Symbol
@@ -39,7 +39,7 @@ module _ (g : Graph) where
     pub begins : Begins (code_of run) agreed
     pub said : text ≡ (left_by run agreed).out
 
-  -- what the survivors agree on is told
+  -- the code is what the survivors agree on
   abbrev pub SaysByRun : List ℕ → List ℕ → Type 0
   SaysByRun w text = SaysTold (Agreed (node_moves g.nodes) g.start) w text
 

@@ -12,7 +12,7 @@ use Rattle.kex_model.specs.Answers.{Answer, Answers}
 use Rattle.kex_machine.specs.Nodes.{Graph, node_moves}
 use Rattle.kex_machine.specs.Answers.{IsViableFor, HasRun, IsGreedy, SaysTold, MeansByRun}
 
--- a code, cut before the symbol of the first byte behind so many
+-- a code, cut before the symbol of the first byte after n bytes
 abbrev pub cut_behind : ℕ → List Symbol → List Symbol
 cut_behind n [] = []
 cut_behind n (L ∷ c) = L ∷ cut_behind n c
@@ -130,7 +130,7 @@ module _ (g : Graph) where
     pub said : (s t : List ℕ) → SaysBest w s → SaysBest (w ++ v) t → Begins t s
     pub meant : (s t : List ℕ) → SaysBest w s → MeansByRun g (w ++ v) t → Begins t s
 
-  -- on each text there is at most one answer; the text grows, and a stop stands; past the limit
+  -- on each text there is at most one answer; the text grows, and a stop stays; past the limit
   -- there is a stop
   pub record BestAnswersStand (n : ℕ) : Type 0 where
     pub one : (w : List ℕ) (e : Bool) (a b : Answer) → BestAnswers n w e a → BestAnswers n w e b

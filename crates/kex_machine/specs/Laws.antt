@@ -37,7 +37,7 @@ pub record RunsGrow (g : Graph) (w v : List ℕ) : Type 0 where
   pub said : (s t : List ℕ) → SaysByRun g w s → SaysByRun g (w ++ v) t → Begins t s
   pub meant : (s t : List ℕ) → SaysByRun g w s → MeansByRun g (w ++ v) t → Begins t s
 
--- on each text there is at most one answer; the text grows, and a stop stands; past the limit there
+-- on each text there is at most one answer; the text grows, and a stop stays; past the limit there
 -- is a stop
 pub record MachineAnswersStand (g : Graph) (n : ℕ) : Type 0 where
   pub one : (w : List ℕ) (e : Bool) (a b : Answer) → MachineAnswers g n w e a

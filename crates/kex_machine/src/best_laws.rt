@@ -33,7 +33,7 @@ pub fn best_grows()
 {}
 
 /// The answers of a stage that says what is best: one on each text, with a text that grows and a
-/// stop that stands.
+/// stop that stays.
 pub fn best_answers_stand()
     ensures { (g : Graph) (limit : ℕ) → BestAnswersStand g limit }
 {}

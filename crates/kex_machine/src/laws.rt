@@ -26,7 +26,7 @@ pub fn answers_grow()
     ensures { (g : Graph) (w v : List ℕ) → RunsGrow g w v }
 {}
 
-/// A stage's answers over nodes: one on each text, with a text that grows and a stop that stands.
+/// A stage's answers over nodes: one on each text, with a text that grows and a stop that stays.
 pub fn answers_stand()
     ensures { (g : Graph) (limit : ℕ) → MachineAnswersStand g limit }
 {}

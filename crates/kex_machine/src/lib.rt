@@ -1,6 +1,6 @@
 //! Machines: a stage's places as numbered nodes.
 //!
-//! Stands on byte sets, codes and the model's moves. A `Machine` keeps that all its numbers are in
+//! Builds on byte sets, codes and the model's moves. A `Machine` keeps that all its numbers are in
 //! range; a `Trimmed` keeps that the end is reached from every node and that every loop without a
 //! byte makes a choice.
 #![tactic(auto)]
@@ -163,7 +163,7 @@ impl Model for Trimmed {
     ghost invariant = { λ t. IsTrimmed t.machine × HasClasses t.machine.nodes t.partition };
 }
 
-// Refines classes by what one node more reads.
+// Refines classes by the set that one node more reads.
 fn refine_by(node: &MNode, classes: &mut Partition)
     ensures { (nodes : List MNode) → HasClasses nodes classes.old
         → HasClasses (nodes ++ node.now ∷ []) classes.new }

@@ -1,4 +1,4 @@
--- The flags of nodes that stand apart, and the lowest call among them.
+-- The flags of nodes that are apart, and the lowest call among them.
 use Rattle.std.proofs.Common.{◌≡◌, ℕ, zero, suc, ◌<◌, ◌≤◌, ◌+◌, Bool, true, false, List, [], ◌⊎◌, inl, inr, ⊎_elim, Option, Some, length, get_or, replicate, refl, sym, ap, subst, ◌∙◌, arith}
 use Rattle.std.proofs.lemmas.List.{length-replicate}
 use Rattle.std.proofs.lemmas.Option.{slice_get_within, slice_get_past}
@@ -49,7 +49,7 @@ apart_more P marks n old new h k = record {
     this_or_above : (a b : ℕ) → a ≤ b → (a ≡ b) ⊎ (a + 1 ≤ b)
     this_or_above a b le = grind arith
 
--- one of the first nodes is a call at this offset that stands apart
+-- one of the first nodes is a call at this offset that is apart
 abbrev pub ApartBefore : Grammar → List Bool → ℕ → ℕ → Type 0
 ApartBefore P apart i at = (n name : ℕ) × (n < i) × IsCall P n name at × (get_or apart n false ≡ true)
 

@@ -225,7 +225,7 @@ ruled P once known begins tail = record {
     some_stage [] n = absurd (n refl)
     some_stage (s ∷ stages) n = (s, inl refl)
 
--- the same, by what the passes found
+-- the same, from what the passes found
 pub ruled_by : (P : Grammar) (stages : List Start) (unknown apart : Option ℕ) (empty : Bool) → Nowhere (IsTwice P.definitions) → IsLeastOffset (IsUnknown P) unknown → unknown ≡ None → stages ≡ P.stages → empty ≡ (length stages == 0) → empty ≡ false → IsLeastOffset (IsNotTail P) apart → apart ≡ None → IsRuled P
 ruled_by P stages unknown apart empty once known u all is some tail a = ruled P once
     (subst (λ z. IsLeastOffset (IsUnknown P) z) u known)

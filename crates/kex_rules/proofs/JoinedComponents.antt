@@ -1,4 +1,4 @@
--- All behind a vertex of the path becomes one component with it.
+-- All after a vertex of the path becomes one component with it.
 use Rattle.std.proofs.Common.{◌≡◌, ℕ, ◌<◌, List, [], ◌∷◌, inl, inr, ⊎_elim, length, get_or, refl, sym, ap, ◌∙◌, arith}
 use Rattle.std.proofs.lemmas.Option.{slice_get_within}
 use Rattle.kex_code.specs.Codes.{HasNumber}

@@ -19,11 +19,11 @@ at_most_or_not a b = grind arith
 pub one_number : {A : Type 0} (xs : List A) (x y : A) (i : ℕ) → HasNumber xs x i → HasNumber xs y i → x ≡ y
 one_number xs x y i h k = some_same x y (sym h ∙ k)
 
--- what stands in a list stands in its front, if its number does
+-- what is in a list is in its front, if its number is
 pub number_front : {A : Type 0} (us vs : List A) (i : ℕ) (x : A) → HasNumber (us ++ vs) x i → i < length us → HasNumber us x i
 number_front us vs i x e lt = let g = slice_get-get_or us i x lt in g ∙ sym (get_more us vs i (get_or us i x) g) ∙ e
 
--- what stands in two lists stands in the first one, or is of the second one
+-- what is in two joined lists is in the first one, or is of the second one
 pub number_cases : {A : Type 0} (xs ys : List A) (x : A) (i : ℕ) → HasNumber (xs ++ ys) x i → HasNumber xs x i ⊎ ((length xs ≤ i) × IsAmong ys x)
 number_cases [] ys x i h = inr (omega arith, among ys i h)
   where
@@ -34,14 +34,14 @@ number_cases [] ys x i h = inr (omega arith, among ys i h)
 number_cases (y ∷ xs) ys x zero h = inl h
 number_cases (y ∷ xs) ys x (suc i) h = ⊎_elim (λ k. inl k) (λ k. let le : length xs ≤ i = k.0 in inr (omega arith, k.1)) (number_cases xs ys x i h)
 
--- what is of the second list stands behind the first one
+-- what is of the second list comes after the first one
 pub number_of : {A : Type 0} (xs ys : List A) (x : A) → IsAmong ys x → (q : ℕ) × HasNumber (xs ++ ys) x q × (length xs ≤ q)
 number_of [] [] x i = absurd i
 number_of [] (y ∷ ys) x (inl e) = (0, ap (λ z. Some z) e, omega arith)
 number_of [] (y ∷ ys) x (inr i) = let r = number_of [] ys x i in (suc r.0, r.1, omega arith)
 number_of (y ∷ xs) ys x i = let r = number_of xs ys x i in (suc r.0, r.1, (let le : length xs ≤ r.0 = r.2 in omega arith))
 
--- a mark other than the default stands within
+-- a mark other than the default is within
 pub mark_within : (marks : List Mark) (v : ℕ) (m : Mark) → get_or marks v Unseen ≡ m → (m ≡ Unseen → ⊥) → v < length marks
 mark_within [] v m e n = absurd (n (sym e))
 mark_within (x ∷ marks) zero m e n = omega arith

@@ -1,4 +1,4 @@
--- The flags of the nodes that stand in a definition, and the lowest call of an unknown name among them.
+-- The flags of the nodes that are in a definition, and the lowest call of an unknown name among them.
 use Rattle.std.proofs.Common.{◌≡◌, ℕ, zero, suc, ◌<◌, ◌≤◌, ◌+◌, Bool, true, false, List, [], ◌∷◌, ◌++◌, ◌⊎◌, inl, inr, ⊎_elim, Option, Some, length, get_or, set, replicate, refl, sym, ap, subst, ◌∙◌, length-set, get_or-set_same, get_or-set_other, arith}
 use Rattle.std.proofs.lemmas.List.{length-replicate}
 use Rattle.std.proofs.lemmas.Option.{slice_get_within, slice_get_past}
@@ -63,7 +63,7 @@ roots_all P within h = record {
 this_or_above : (a b : ℕ) → a ≤ b → (a ≡ b) ⊎ (a + 1 ≤ b)
 this_or_above a b le = grind arith
 
--- one node more, which stands in a definition
+-- one node more, which is in a definition
 pub within_more : (P : Grammar) (n : ℕ) (old new : List Bool) → HasWithin P (n + 1) old → get_or old n false ≡ true → FlagsParts n (last_parts (kind_at P n)) (other_parts (kind_at P n)) old new → HasWithin P n new
 within_more P n old new h f k = record {
   long = k.long ∙ h.long;
@@ -86,13 +86,13 @@ within_same P n within h f = record {
     never : (j : ℕ) → n ≡ j → get_or within j false ≡ true → ⊥
     never j e g = let clash : false ≡ true = sym f ∙ ap (λ z. get_or within z false) e ∙ g in cc
 
--- the flags have all that stands in a definition
+-- the flags have all that is in a definition
 pub stands_flagged : (P : Grammar) (within : List Bool) → HasWithin P 0 within → (d : Definition) → IsAmong P.definitions d → {p : TermPosition} {n : ℕ} → StandsIn P d.root p n → get_or within n false ≡ true
 stands_flagged P within h d i at_root = h.roots d i
 stands_flagged P within h d i (as_last {n = n} {m = m} s j) = h.lasts n m (omega arith) (stands_flagged P within h d i s) j
 stands_flagged P within h d i (as_other {n = n} {m = m} s j) = h.others n m (omega arith) (stands_flagged P within h d i s) j
 
--- one of the first nodes stands in a definition and calls a name that has none, at this offset
+-- one of the first nodes is in a definition and calls a name that has none, at this offset
 abbrev pub UnknownBefore : Grammar → List Bool → ℕ → ℕ → Type 0
 UnknownBefore P within i at = (n name : ℕ) × (n < i) × IsCall P n name at × (get_or within n false ≡ true) × (IsDefined P.definitions name → ⊥)
 

@@ -65,7 +65,7 @@ module _ (f : ℕ → List ℕ) (count : ℕ) where
       again i v (is_ahead q h c) = ⊎_elim (λ g. is_ahead q g c) (λ g. in_hand (inl g.1)) (get_pushed ahead w q v h)
       again i v (in_hand h) = absurd h
 
-  -- all that is open leads to what stands in the last component
+  -- all that is open leads to what is in the last component
   pub all_lead : (marks : List Mark) (path ahead : List ℕ) (bounds : List Bound) (closed : ℕ) (hand : List ℕ) → IsSearch f count hand marks path ahead bounds closed → (top : Bound) (n : ℕ) → length bounds ≡ n + 1 → HasNumber bounds top n → (u i : ℕ) → HasNumber path u i → top.path ≤ i → AllLead f path u
   all_lead marks path ahead bounds closed hand s top n len ht u i hu le v j hv =
       ⊎_elim

@@ -1,4 +1,4 @@
--- A call stands outside tail position in a definition that it comes back to exactly where it stands apart in its component.
+-- A call is outside tail position in a definition that it comes back to exactly where it is apart in its component.
 use Rattle.std.proofs.Common.{◌≡◌, ℕ, zero, suc, ◌<◌, ◌≤◌, ◌+◌, ◌-◌, Bool, true, false, List, [], ◌∷◌, ◌⊎◌, inl, inr, Option, Some, None, find, length, get_or, refl, sym, ap, subst, ◌∙◌, arith}
 use Rattle.std.specs.Prelude.{slice_get, ◌==◌}
 use Rattle.std.specs.Option.{option_map}
@@ -105,7 +105,7 @@ not_past [] n e lt = omega arith
 not_past (x ∷ xs) zero e lt = cc
 not_past (x ∷ xs) (suc n) e lt = not_past xs n e (omega arith)
 
--- what doesn't stand in tail position
+-- what isn't in tail position
 abbrev IsElsewhere : TermPosition → Type 0
 IsElsewhere in_tail = ⊥
 IsElsewhere elsewhere = Unit {0}
@@ -217,11 +217,11 @@ module _ (P : Grammar) (g : IsGrammar P) where
   reaches_leads (by_call {caller = a} {callee = b} (d, p, n, s, e) r) =
       leads_on (leads_one f (N + a) (root_of P a) (root_on a d)) (leads_on (stands_leads s) (leads_on (leads_one f n (N + b) (call_on n b e)) (reaches_leads r)))
 
-  -- a vertex is a name, or stands in its definition
+  -- a vertex is a name, or is in its definition
   abbrev Belongs : ℕ → ℕ → Type 0
   Belongs name u = (u ≡ N + name) ⊎ (IsDefined P.definitions name × (p : TermPosition) × StandsIn P (root_of P name) p u)
 
-  -- the node stands in a definition that the name reaches
+  -- the node is in a definition that the name reaches
   abbrev Arrives : ℕ → ℕ → Type 0
   Arrives name n = (caller : ℕ) × IsDefined P.definitions caller × ((p : TermPosition) × StandsIn P (root_of P caller) p n) × ReachesByCalls P name caller
 
@@ -260,18 +260,18 @@ module _ (P : Grammar) (g : IsGrammar P) where
         let equal : a.0 ≡ b.0 = omega arith in
         a.1 ∙ ap (λ z. Closed z) equal ∙ sym b.1
 
-    -- what stands outside tail position, and leads back to its definition's root, stands apart
+    -- what is outside tail position, and leads back to its definition's root, is apart
     stands_apart : {root n : ℕ} {p : TermPosition} → StandsIn P root p n → IsElsewhere p → Leads f n root → IsApart P marks n
     stands_apart at_root q h = absurd q
     stands_apart {root = root} (as_last {n = n} {m = m} s i) q h = by_last n (stands_apart s q (leads_on (leads_one f n m (last_on n m i)) h)) i (are_same n m (last_fits n m i).0 (leads_one f n m (last_on n m i)) (leads_on h (stands_leads s)))
     stands_apart {root = root} (as_other {n = n} {m = m} s i) q h = by_other n i (are_same n m (other_fits n m i).0 (leads_one f n m (other_on n m i)) (leads_on h (stands_leads s)))
 
-    -- where a node that stands apart comes from
+    -- where a node that is apart comes from
     apart_from : {n : ℕ} → IsApart P marks n → (k m : ℕ) × IsAmong (other_parts (kind_at P k)) m × ((root : ℕ) (p : TermPosition) → StandsIn P root p k → StandsIn P root elsewhere n) × AreSame marks k n
     apart_from (by_other n {m = m} i e) = (n, m, i, (λ root p s. as_other s i), e)
     apart_from (by_last n h i e) = let r = apart_from h in (r.0, r.1, r.2, (λ root p s. as_last (r.3 root p s) i), r.4 ∙ e)
 
-    -- a call breaks the rule exactly where it stands apart
+    -- a call that breaks the rule is apart
     pub is_apart : (at : ℕ) → IsNotTail P at → (n name : ℕ) × IsCall P n name at × IsApart P marks n
     is_apart at (caller, callee, n, d, s, call, back) =
         let kind : kind_at P n ≡ Call callee = at_node n call.0 call.1 ∙ call.2 in
@@ -298,7 +298,7 @@ module _ (P : Grammar) (g : IsGrammar P) where
             only_name k v kind (inr (inl j)) h = absurd (subst (λ z. IsAmong (other_parts z) v) kind j)
             only_name k v kind (inr (inr (callee, e, q))) h = let both : Call callee ≡ Call name = sym e ∙ kind in let same : callee ≡ name = cc in subst (λ z. Leads f z k) (q ∙ ap (λ z. N + z) same) h
 
-    -- the flags have all that stands apart
+    -- the flags have all that is apart
     pub flagged : (apart : List Bool) → HasApart P marks 0 apart → {n : ℕ} → IsApart P marks n → get_or apart n false ≡ true
     flagged apart h (by_other k {m = m} i e) = h.by_other k m (omega arith) i e
     flagged apart h (by_last k {m = m} a i e) = h.by_last k m (omega arith) (flagged apart h a) i e

@@ -1,4 +1,4 @@
--- The graph of a program: its nodes and, behind them, its names. A node leads to its parts, a call
+-- The graph of a program: its nodes and, after them, its names. A node leads to its parts, a call
 -- to its name, a name to its root.
 use Rattle.std.specs.Prelude.{◌≡◌, ℕ, ◌<◌, ◌≤◌, ◌+◌, ◌-◌, List, [], ◌∷◌, Option, Some, None, length}
 use Rattle.std.specs.Prelude.{get_or, slice_get}
@@ -18,7 +18,7 @@ successor_list NoWay = []
 successor_list (One t) = t ∷ []
 successor_list (Two l r) = l ∷ r ∷ []
 
--- where a node of a kind leads, with so many nodes before the names
+-- where a node of a kind leads, with this number of nodes before the names
 abbrev pub kind_successors : ℕ → Kind → List ℕ
 kind_successors nodes (Call name) = (nodes + name) ∷ []
 kind_successors nodes (Seq l r) = l ∷ r ∷ []

@@ -48,7 +48,7 @@ other_parts (Mute t) = t ∷ []
 other_parts (At r t) = t ∷ []
 other_parts _ = []
 
--- a node stands in the term of a root, in this position
+-- a node is in the term of a root, in this position
 pub data StandsIn (P : Grammar) (root : ℕ) : TermPosition → ℕ → Type 0 where
   at_root : StandsIn P root in_tail root
   as_last : {p : TermPosition} {n m : ℕ} → StandsIn P root p n
@@ -56,7 +56,7 @@ pub data StandsIn (P : Grammar) (root : ℕ) : TermPosition → ℕ → Type 0 w
   as_other : {p : TermPosition} {n m : ℕ} → StandsIn P root p n
       → IsAmong (other_parts (kind_at P n)) m → StandsIn P root elsewhere m
 
--- the node stands in one of the definitions
+-- the node is in one of the definitions
 abbrev pub IsWithin : Grammar → ℕ → Type 0
 IsWithin P n = (d : Definition) × (p : TermPosition) × IsAmong P.definitions d
     × StandsIn P d.root p n
@@ -91,7 +91,7 @@ IsNotTail P at = (caller callee n : ℕ) × IsDefined P.definitions caller
     × ReachesByCalls P callee caller
 
 -- each name that is called, started or defined has just one definition; there is a stage; calls
--- that come back stand in tail position
+-- that come back are in tail position
 pub record IsRuled (P : Grammar) : Type 0 where
   pub once : (i j : ℕ) (d e : Definition) → HasNumber P.definitions d i
       → HasNumber P.definitions e j → d.name ≡ e.name → i ≡ j

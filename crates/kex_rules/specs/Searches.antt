@@ -15,7 +15,7 @@ unseen_count (Unseen ∷ xs) = suc (unseen_count xs)
 unseen_count (Open i ∷ xs) = unseen_count xs
 unseen_count (Closed a ∷ xs) = unseen_count xs
 
--- number i of the path and number q of what is ahead stand on one side of the bound
+-- number i of the path and number q of what is ahead are on one side of the bound
 abbrev pub SameSide : Bound → ℕ → ℕ → Type 0
 SameSide b i q = (b.ahead ≤ q → b.path ≤ i) × (q < b.ahead → i < b.path)
 
@@ -36,7 +36,7 @@ pub record IsSearch (f : ℕ → List ℕ) (count : ℕ) (hand : List ℕ) (mark
   pub long : length marks ≡ count
   pub opened : (v i : ℕ) → HasNumber path v i → get_or marks v Unseen ≡ Open i
   pub listed : (v i : ℕ) → get_or marks v Unseen ≡ Open i → HasNumber path v i
-  -- what stands earlier on the path leads to what stands later, and back within a component
+  -- what is earlier on the path leads to what is later, and back within a component
   pub onward : (u v i j : ℕ) → HasNumber path u i → HasNumber path v j → i ≤ j → Leads f u v
   pub back : (u v i j : ℕ) → HasNumber path u i → HasNumber path v j → i ≤ j
       → ((k : ℕ) (b : Bound) → HasNumber bounds b k → b.path ≤ j → b.path ≤ i) → Leads f v u
@@ -68,7 +68,7 @@ pub record Joins (p : ℕ) (old new : List Bound) : Type 0 where
   pub all : (k : ℕ) (b : Bound) → HasNumber old b k → b.path ≤ p → HasNumber new b k
   pub short : length new ≤ length old
 
--- what stands on the path from number p on, and before number q, is closed
+-- what is on the path from number p on, and before number q, is closed
 pub record ClosesPath (p q closed : ℕ) (path : List ℕ) (old new : List Mark) : Type 0 where
   pub long : length new ≡ length old
   pub done : (v i : ℕ) → p ≤ i → i < q → HasNumber path v i → get_or new v Unseen ≡ Closed closed

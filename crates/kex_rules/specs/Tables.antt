@@ -11,7 +11,7 @@ use Rattle.kex_rules.specs.Rules.{CallsAt, IsDefined, IsLowest, Nowhere, StartsA
 abbrev pub first_root : List Definition → ℕ → Option ℕ
 first_root definitions name = option_map (λ d. d.root) (find (λ d. d.name == name) definitions)
 
--- the table has the roots of so many names
+-- the table has the roots of `names` names
 pub record HasRoots (definitions : List Definition) (names : ℕ)
     (roots : List (Option ℕ)) : Type 0 where
   pub long : length roots ≡ names

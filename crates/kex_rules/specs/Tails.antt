@@ -1,4 +1,4 @@
--- Nodes that stand outside tail position on a way within their component.
+-- Nodes that are outside tail position on a way within their component.
 use Rattle.std.specs.Prelude.{◌≡◌, ℕ, ◌≤◌, Bool, true, false, List, ◌⊎◌, length, get_or}
 use Rattle.kex_code.specs.Codes.{IsAmong}
 use Rattle.kex_model.specs.Programs.{Grammar}
@@ -30,7 +30,7 @@ pub record MarksParts (marks : List Mark) (n : ℕ) (lasts others : List ℕ)
   pub by_last : (m : ℕ) → get_or old n false ≡ true → IsAmong lasts m → AreSame marks n m
       → get_or new m false ≡ true
 
--- the flags say which nodes stand apart, by the parts of node n and those above
+-- the flags say which nodes are apart, by the parts of node n and those above
 pub record HasApart (P : Grammar) (marks : List Mark) (n : ℕ) (apart : List Bool) : Type 0 where
   pub long : length apart ≡ length P.nodes
   pub real : (m : ℕ) → get_or apart m false ≡ true → IsApart P marks m

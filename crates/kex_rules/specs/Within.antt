@@ -1,4 +1,4 @@
--- Nodes that stand in a definition, by a flag each.
+-- Nodes that are in a definition, by a flag each.
 use Rattle.std.specs.Prelude.{◌≡◌, ℕ, ◌≤◌, ◌⊎◌, Bool, true, false, List, length, get_or}
 use Rattle.kex_code.specs.Codes.{IsAmong}
 use Rattle.kex_model.specs.declared.program.Definition.{Definition}
@@ -16,7 +16,7 @@ pub record FlagsParts (n : ℕ) (last other : List ℕ) (old new : List Bool) : 
   pub lasts : (m : ℕ) → IsAmong last m → get_or new m false ≡ true
   pub others : (m : ℕ) → IsAmong other m → get_or new m false ≡ true
 
--- the flags say which nodes stand in a definition, by the roots and the parts of node n and those
+-- the flags say which nodes are in a definition, by the roots and the parts of node n and those
 -- above
 pub record HasWithin (P : Grammar) (n : ℕ) (within : List Bool) : Type 0 where
   pub long : length within ≡ length P.nodes

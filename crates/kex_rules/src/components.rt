@@ -59,8 +59,8 @@ fn push_successors(ahead: &mut Vec<usize>, ways: VertexSuccessors) -> Result<(),
     Ok(())
 }
 
-// The bounds behind number `place` of the path go: what begins there is one component with what
-// stands at `place`.
+// The bounds after number `place` of the path go: what begins there is one component with what is
+// at `place`.
 fn join(bounds: &mut Vec<Bound>, place: usize)
     requires { (k l : ℕ) (b c : Bound) → k ≤ l → HasNumber bounds.old.items b k
         → HasNumber bounds.old.items c l → (b.path ≤ c.path) × (b.ahead ≤ c.ahead) }
@@ -73,7 +73,7 @@ fn join(bounds: &mut Vec<Bound>, place: usize)
     bounds.truncate(kept);
 }
 
-// What stands on the path from number `from` on is a component of this number.
+// What is on the path from number `from` on is a component of this number.
 fn close_all(marks: &mut Vec<Mark>, path: &[usize], from: usize, closed: usize)
     requires { (v i : ℕ) → HasNumber path.now v i → v < length marks.old.items }
     ensures { ClosesPath from (length path.now) closed path.now marks.old.items marks.new.items }
@@ -123,7 +123,7 @@ impl Search {
         Ok(())
     }
 
-    // Goes to a vertex to which all that is open leads: on the path, all behind it is one component
+    // Goes to a vertex to which all that is open leads: on the path, all after it is one component
     // with it.
     fn meet(&mut self, program: &Program, roots: &[Option<u32>], v: usize) -> Result<(), Memory>
         requires roots { HasRoots program.now.definitions (length program.now.names) roots.now }

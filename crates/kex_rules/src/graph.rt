@@ -1,4 +1,4 @@
-// A program as a graph: its nodes are vertices, and so are its names, which stand behind the nodes.
+// A program as a graph: its nodes are vertices, and so are its names, which come after the nodes.
 
 ghost use Rattle.std.specs.Prelude.{◌≡◌, ◌<◌, ◌^◌, length};
 ghost use Rattle.kex_rules.specs.Graphs.{kind_successors, successor_list, root_successors};
@@ -15,7 +15,7 @@ pub enum VertexSuccessors {
     Two(usize, usize),
 }
 
-// Where a node of this kind leads, with so many nodes before the names.
+// Where a node of this kind leads, with this number of nodes before the names.
 fn successors_of_kind(nodes: usize, kind: &Kind) -> VertexSuccessors
     requires { nodes < 2 ^ 63 }
     ensures { successor_list result ≡ kind_successors nodes kind.now }

@@ -1,6 +1,6 @@
 //! The rules on a program's names, its stages and its calls (K07 to K10).
 //!
-//! Stands on the model's programs. The contract of `check` is the crate's: it refuses exactly where
+//! Builds on the model's programs. The contract of `check` is the crate's: it refuses exactly where
 //! a rule is broken, by the first rule and its lowest offset, and what it gives keeps them all.
 #![tactic(auto)]
 
@@ -53,7 +53,7 @@ impl<'a> Ruled<'a> {
 ///
 /// K07: no name is defined twice. K08: each name that a definition calls, or that starts a stage,
 /// has a definition. K09: there is a stage. K10: where a definition calls a name that reaches it by
-/// calls of any position, the call stands in tail position. In time linear in the program.
+/// calls of any position, the call is in tail position. In time linear in the program.
 pub fn check<'a>(alloc: Global, program: &'a Program) -> Result<Ruled<'a>, RuleRefusal>
     ensures same { IfOk result (λ r. r ≡ program.now) }
     ensures ruled { IfOk result (λ r. IsRuled r) }

@@ -18,7 +18,7 @@ pub enum RuleRefusal {
     /// K09: there is no stage.
     #[error("K09: there is no stage")]
     NoStart,
-    /// K10: the call at this offset comes back, and stands outside tail position.
+    /// K10: the call at this offset comes back, and is outside tail position.
     #[error("K10: the call at byte {0} comes back outside tail position")]
     NotTail(u32),
     /// Memory was wanted, and there was none.

@@ -1,4 +1,4 @@
-// Calls that stand outside tail position and come back.
+// Calls that are outside tail position and come back.
 
 ghost use Rattle.std.specs.Prelude.{◌≡◌, ℕ, ◌<◌, ◌≤◌, ◌∷◌, [], IfOk, length};
 ghost use Rattle.kex_model.specs.Programs.{HasBelow, IsGrammar};
@@ -13,7 +13,7 @@ use kex_code::memory::Memory;
 use kex_model::program::{Kind, Program};
 use std::alloc::Global;
 
-// A last part of a node in its component stands apart if the node does.
+// A last part of a node in its component is apart if the node is.
 fn mark_last(marks: &[Mark], apart: &mut Vec<bool>, node: usize, part: u32)
     requires below { part < node }
     requires fits { node < length apart.old.items }
@@ -25,7 +25,7 @@ fn mark_last(marks: &[Mark], apart: &mut Vec<bool>, node: usize, part: u32)
     }
 }
 
-// Another part of a node in its component stands apart.
+// Another part of a node in its component is apart.
 fn mark_other(marks: &[Mark], apart: &mut Vec<bool>, node: usize, part: u32)
     requires below { part < node }
     requires fits { node < length apart.old.items }
@@ -60,7 +60,7 @@ fn mark_parts(marks: &[Mark], apart: &mut Vec<bool>, node: usize, kind: &Kind)
     }
 }
 
-// Which nodes stand outside tail position on a way within their component.
+// Which nodes are outside tail position on a way within their component.
 fn apart_nodes(alloc: Global, program: &Program, marks: &[Mark]) -> Result<Vec<bool>, Memory>
     requires grammar { IsGrammar program.now }
     requires long { length program.now.nodes ≤ length marks.now }
@@ -76,8 +76,7 @@ fn apart_nodes(alloc: Global, program: &Program, marks: &[Mark]) -> Result<Vec<b
     Ok(apart)
 }
 
-// The lowest offset of a call outside tail position of a name that reaches the definition it stands
-// in.
+// The lowest offset of a call outside tail position of a name that reaches the definition it is in.
 pub(crate) fn lowest_not_tail(
     alloc: Global,
     program: &Program,

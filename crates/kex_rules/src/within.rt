@@ -1,4 +1,4 @@
-// Nodes that stand in a definition.
+// Nodes that are in a definition.
 
 ghost use Rattle.std.specs.Prelude.{◌≡◌, ◌<◌, ◌∷◌, [], IfOk, length};
 ghost use Rattle.kex_model.specs.Programs.{HasBelow, IsGrammar};
@@ -41,7 +41,7 @@ fn flag_parts(within: &mut Vec<bool>, node: usize, kind: &Kind)
     }
 }
 
-// Which nodes stand in a definition: the roots, and the parts of those that do.
+// Which nodes are in a definition: the roots, and the parts of those that do.
 pub(crate) fn nodes_within(alloc: Global, program: &Program) -> Result<Vec<bool>, Memory>
     requires { IsGrammar program.now }
     ensures { IfOk result (λ within. HasWithin program.now 0 within.items) }

@@ -1,6 +1,6 @@
 //! A machine without dead ends.
 //!
-//! Stands on machines. `trim` refuses exactly where there is no text; else it keeps exactly the
+//! Builds on machines. `trim` refuses exactly where there is no text; else it keeps exactly the
 //! nodes that lead to the end, with the same codes and effects.
 #![tactic(auto)]
 
