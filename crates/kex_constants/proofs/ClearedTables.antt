@@ -1,5 +1,4 @@
--- The table without constants is a table: each old register still stands at most once, within the number of those that are left,
--- and what is put are choices.
+-- The table without constants is a table: each old register is still there at most once, within the number of those that are left, and what is put are choices.
 use Rattle.std.proofs.Common.{◌≡◌, ℕ, zero, suc, ◌<◌, ◌≤◌, List, [], ◌∷◌, ◌++◌, inl, inr, ⊎_elim, Option, Some, None, map, length, get_or, refl, sym, ap, ap₂, subst, ◌∙◌, append_assoc, arith}
 use Rattle.std.specs.Prelude.{slice_get}
 use Rattle.std.proofs.lemmas.Bool.{cases_lt}
@@ -93,7 +92,7 @@ module _ (cs : Constants) where
   replaced_reads [] = refl
   replaced_reads (x ∷ xs) = ap₂ (λ u v. u ++ v) (replaced_olds x) (replaced_reads xs) ∙ sym (all_renumbered-append (olds x) (olds_in xs))
 
--- a register that is kept has a smaller number than those behind it
+-- a register that is kept has a smaller number than those after it
 number_rises : (cs : Constants) (i j : ℕ) → get_or cs i None ≡ None → i < j → kept_number cs i < kept_number cs j
 number_rises [] i j e lt = lt
 number_rises (c ∷ cs) i zero e lt = absurd (omega arith)

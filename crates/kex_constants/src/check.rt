@@ -32,7 +32,7 @@ fn side_at(symbol: Symbol) -> Option<Bit>
     }
 }
 
-// Adds what a part stands for, if that is known.
+// Adds the choices of a part, if they are known.
 fn spell(part: Part, known: &[Option<Choices>], into: &mut Choices) -> Result<bool, Memory>
     ensures { IfOk result (λ yes. IsTrue yes → (regs : List (List ASymbol)) (b : ℕ)
         → Hold known.now regs → symbols into.new ≡ symbols into.old ++ value regs b part) }
@@ -51,7 +51,7 @@ fn spell(part: Part, known: &[Option<Choices>], into: &mut Choices) -> Result<bo
     Ok(true)
 }
 
-/// Whether what a list of parts stands for is known: then `into` has it.
+/// Whether the choices of a list of parts are known: then `into` has them.
 pub fn spelled(
     parts: &[Part],
     known: &[Option<Choices>],

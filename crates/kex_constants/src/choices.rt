@@ -7,7 +7,7 @@ use kex_machine::Bit;
 use std::alloc::Global;
 use std::marker::Model;
 
-/// What a register holds, if no byte was read behind its edge: choices, in their order.
+/// What a register holds, if no byte was read after its edge: choices, in their order.
 #[derive(Drop)]
 pub struct Choices {
     sides: Vec<Bit>,

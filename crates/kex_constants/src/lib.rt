@@ -1,6 +1,6 @@
 //! Registers that always hold the same choices, taken out of a table.
 //!
-//! Stands on tables and the sides of choices. Constants are guessed, then checked, and only then
+//! Builds on tables and the sides of choices. Constants are guessed, then checked, and only then
 //! put in place of their registers; the clauses of `clear_table` are the contract: the new table
 //! passes on the same, so it is of the same machine.
 #![tactic(auto)]
@@ -24,13 +24,13 @@ use kex_code::memory::Memory;
 use kex_sst::table::Table;
 use std::alloc::Global;
 
-/// How many choices a constant has at most, for a table that is run. The labels of edges that no
-/// byte was read behind have one or two choices; without a limit a chain of states whose label
+/// How many choices a constant has at most, for a table that is run. The labels of edges after
+/// which no byte was read have one or two choices; without a limit a chain of states whose label
 /// grows by a choice a state would take the square of its length. What is longer stays in its
 /// register.
 pub const LONGEST: usize = 16;
 
-/// The table with each constant in place of its register, as far as constants of at most so many
+/// The table with each constant in place of its register, as far as constants of at most `longest`
 /// choices are found.
 pub fn clear_table(alloc: Global, table: &Table, longest: usize) -> Result<Table, Memory>
     ensures alike { IfOk result (λ t. PassAlike table.now t) }

@@ -26,7 +26,7 @@ fn put_choices(choices: &[Bit], into: &mut Parts) -> Result<(), Memory>
     Ok(())
 }
 
-// Adds what stands for a part: a constant, or a register by its new number, or the part itself.
+// Adds what replaces a part: a constant, or a register by its new number, or the part itself.
 fn put(part: Part, known: &Known, into: &mut Parts) -> Result<(), Memory>
     ensures { OnOk result (into.new ≡ into.old ++ parts_for known.now part) }
 {
@@ -140,7 +140,7 @@ fn clear_transitions(
     Fan::from_parts(alloc, go.len(), numbers, cleared)
 }
 
-// What stands on the way to the leaf at which a text may end.
+// What is on the way to the leaf at which a text may end.
 fn clear_way(alloc: Global, state: &State, known: &Known) -> Result<Option<Parts>, Memory>
     ensures { IfOk result (λ way. way ≡ cleared_way known.now state.now.accepting) }
 {

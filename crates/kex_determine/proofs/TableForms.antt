@@ -38,7 +38,7 @@ rise_wider : (lo hi more : ℕ) (xs : List ℕ) → hi ≤ more → RiseWithin l
 rise_wider lo hi more [] le h = tt
 rise_wider lo hi more (x ∷ xs) le h = (h.0, omega (arith, h.1, le), rise_wider (suc x) hi more xs le h.2)
 
--- ---- what stands in labels
+-- ---- what is in labels
 
 abbrev pub EachIn : (Part → Type 0) → List Part → Type 0
 EachIn P xs = (x : Part) → IsAmong xs x → P x

@@ -95,7 +95,7 @@ module _ (g : Graph) where
   front_of (x ∷ go) r zero lt = refl
   front_of (x ∷ go) r (suc k) lt = front_of go r k (omega arith)
 
-  -- by what its transition does
+  -- one class more, given what its transition does
   one_with : (classes : List ℕ) (keys keys' : List (Vec ℕ)) (trees trees' : List Outline) (xs ys zs : List (Shape ℕ)) (s : Shape ℕ) (n : ℕ) (go : List (Option Transition)) (r : Option Transition)
       → AreTransitionsTo n g classes keys trees xs ys s go → AreNumbered g keys' trees' zs → Begins zs ys → ((b : ℕ) → b < 256 → class_at classes b ≡ n → DoesOn g zs s b r) → MeetsInOrder (length ys) (targets_of (r ∷ [])) (length zs) → AreTransitionsTo (n + 1) g classes keys' trees' xs zs s (go ++ r ∷ [])
   one_with classes keys keys' trees trees' xs ys zs s n go r t numbered begins does order = record {

@@ -1,4 +1,4 @@
--- A walk to the first leaf that accepts: where it stands, and what is still to come.
+-- A walk to the first leaf that accepts: where it is, and what is still to come.
 use Rattle.std.specs.Prelude.{◌≡◌, ℕ, ◌+◌, ◌-◌, Bool, List, [], ◌∷◌, ◌++◌, Option, Some, None, map}
 use Rattle.std.specs.Prelude.{length, drop}
 use Rattle.kex_code.specs.Codes.{Begins}
@@ -37,7 +37,7 @@ abbrev pub either : Option (List Part) → Option (List Part) → Option (List P
 either None o = o
 either (Some way) o = Some way
 
--- behind a way
+-- after a way
 abbrev pub onward : List ℕ → Option (Grown Part ℕ) → Option (List Part)
 onward way None = None
 onward way (Some a) = Some (map (λ i. Old i) way ++ a.label)
@@ -53,7 +53,7 @@ module _ (moves : ℕ → Move ℕ) where
   from_here k way s rest = either (onward way (first_accepting moves (numbered_tree k s)))
       (from_sides (k + size_of s) rest)
 
--- at node k, behind so many leaves: what is still to come has the whole tree's way to the end
+-- at node k, after `leaf` leaves: what is still to come has the whole tree's way to the end
 pub record IsOnWay (moves : ℕ → Move ℕ) (m : ℕ) (shape : List Bool) (leaves : List ℕ)
     (whole : Option (List Part)) (k leaf : ℕ) (way forks : List ℕ) : Type 0 where
   pub here : Shape ℕ

@@ -27,14 +27,14 @@ left_pop all rest t e = ap (λ z. left_of z) e ∙ ap (λ z. edges_at z) (revers
 pub left_start : (all ts : List TreeEdge) → all ≡ reverse ts → left_of all ≡ edges_at ts
 left_start all ts e = ap (λ z. left_of z) e ∙ ap (λ z. edges_at z) (reverse-reverse ts)
 
--- a edge behind trees, the last first: a tip, or a fork of the last two
+-- an edge after trees, the last first: it makes a tip, or a fork of the last two
 abbrev pub stacked : List Symbol → Option ℕ → List (Grown Symbol ℕ) → Option (List (Grown Symbol ℕ))
 stacked c (Some p) ts = Some (record { label = c; tree = tip p } ∷ ts)
 stacked c None (r ∷ l ∷ ts) = Some (record { label = c; tree = fork l.label l.tree r.label r.tree } ∷ ts)
 stacked c None [] = None
 stacked c None (r ∷ []) = None
 
--- the trees that edges make behind others
+-- the trees that edges make after others
 abbrev pub made : Option (List (Grown Symbol ℕ)) → List Edge → Option (List (Grown Symbol ℕ))
 made None ks = None
 made (Some ts) [] = Some ts
@@ -76,7 +76,7 @@ pub tip_first : (m : ℕ) (all rest : List TreeEdge) (t : TreeEdge) → all ≡ 
 tip_first m all rest t e h = h (edge_of t) (subst (λ z. IsAmong z (edge_of t)) (sym (left_pop all rest t e)) (inl refl))
 
 module _ (moves : ℕ → Move ℕ) (b : ℕ) (f0 : List Bool) where
-  -- the trees go on one after another, and are behind their labels
+  -- the trees go on one after another, each with its label in front
   abbrev pub Steps : List (Grown Symbol ℕ) → List (Option (Grown Symbol ℕ)) → List Bool → Type 0
   Steps [] [] f = f0 ≡ f
   Steps (t ∷ ts) (r ∷ rs) f = (g : List Bool) × (a : Option (Grown Symbol ℕ)) × Steps ts rs g × AdvancesCodes moves b g t.tree a f × (r ≡ with_prefix t.label a)
@@ -120,7 +120,7 @@ module _ (moves : ℕ → Move ℕ) (b : ℕ) (f0 : List Bool) where
       }
 
 module _ (moves : ℕ → Move ℕ) where
-  -- what of a tree accepts, behind its label
+  -- what of a tree accepts, with its label in front
   abbrev pub found_in : Grown Symbol ℕ → Option (Grown Symbol ℕ)
   found_in g = with_prefix g.label (first_accepting moves g.tree)
 

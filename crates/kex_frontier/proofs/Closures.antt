@@ -92,7 +92,7 @@ module _ (nodes : List MNode) where
   abbrev f : ℕ → Move ℕ
   f n = node_moves nodes n
 
-  -- behind the last node there is nothing to do
+  -- after the last node there is nothing to do
   pub past_last : (n : ℕ) → length nodes ≤ n → f n ≡ accept
   past_last n le = ap move_of (slice_get_past nodes n le)
 

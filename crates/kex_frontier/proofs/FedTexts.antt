@@ -1,4 +1,4 @@
--- A frontier that stands for a text, after a byte, after the end, and after symbols are taken.
+-- A frontier that was fed a text, after a byte, after the end, and after symbols are taken.
 use Rattle.std.proofs.Common.{◌≡◌, ℕ, ◌<◌, Bool, true, false, List, [], ◌∷◌, ◌++◌, ◌⊎◌, inl, inr, ⊎_elim, Option, Some, None, length, replicate, refl, sym, ap, subst, ◌∙◌, append_assoc, append-nil, length-set}
 use Rattle.std.proofs.lemmas.List.{length-replicate}
 use Rattle.kex_code.specs.declared.symbol.Symbol.{Symbol}

@@ -23,7 +23,7 @@ set_again (x ∷ f) zero e = cc
 set_again (x ∷ f) (suc n) e = ap (λ z. x ∷ z) (set_again f n e)
 
 module _ (moves : ℕ → Move ℕ) where
-  -- a place that wasn't met, by what there is to do there
+  -- a place that wasn't met, for each thing that there is to do there
   met_new : (js : List VisitTask) (f : List Bool) (n : ℕ) (rs : List (Option (Grown Symbol ℕ))) (g : List Bool) (out : List (Option (Grown Symbol ℕ))) (mv : Move ℕ) → moves n ≡ mv → n < length f → get_or f n false ≡ false → RunsVisits moves (reverse (visits_from mv) ++ js) (set f n true) (code_leaf_at mv n ++ rs) g out → RunsVisits moves (Visit n ∷ js) f rs g out
   met_new js f n rs g out accept is lt e q = (Some (record { label = []; tree = tip n }), set f n true, stops lt e (subst (λ z. IsWaiting z) (sym is) tt), q)
   met_new js f n rs g out (read s t) is lt e q = (Some (record { label = []; tree = tip n }), set f n true, stops lt e (subst (λ z. IsWaiting z) (sym is) tt), q)

@@ -11,7 +11,7 @@ pub record RowList : Type 0 where
   pub width : ℕ
   pub rows : List (List ℕ)
 
--- words, cut into so many rows of a width
+-- words, cut into `count` rows of a width
 abbrev pub cut_rows : ℕ → ℕ → List ℕ → List (List ℕ)
 cut_rows width zero words = []
 cut_rows width (suc count) words = take width words ∷ cut_rows width count (drop width words)

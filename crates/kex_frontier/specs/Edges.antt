@@ -35,7 +35,7 @@ pub record CodeTrees : Type 0 where
   pub edges : List Edge
   pub there : List Bool
 
--- the edges of trees of which the last stands first
+-- the edges of trees of which the last comes first
 abbrev pub edges_in : (List Symbol → List Symbol) → List (Option (Grown Symbol ℕ)) → List Edge
 edges_in h [] = []
 edges_in h (r ∷ rs) = edges_in h rs ++ edges_if h r

@@ -1,4 +1,4 @@
--- What a frontier stands for: the bytes that it was fed, and the symbols that were taken.
+-- What a frontier shows: the bytes that it was fed, and the symbols that were taken.
 use Rattle.std.specs.Prelude.{◌≡◌, ℕ, Bool, true, false, length, List, [], ◌++◌, ◌⊎◌}
 use Rattle.kex_code.specs.declared.symbol.Symbol.{Symbol}
 use Rattle.kex_model.specs.Labelled.{Labelled}

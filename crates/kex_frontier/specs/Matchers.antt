@@ -1,4 +1,4 @@
--- What a matcher stands for: the bytes that it was fed.
+-- What a matcher shows: the bytes that it was fed.
 use Rattle.std.specs.Prelude.{◌≡◌, ℕ, Bool, true, false, List, length}
 use Rattle.kex_model.specs.Survivors.{LongestViable}
 use Rattle.kex_machine.specs.Nodes.{Graph, node_moves}

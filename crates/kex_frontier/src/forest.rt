@@ -143,7 +143,7 @@ impl CodeForest {
         self.edges.pop()
     }
 
-    // A fork's edge behind its sides, if both of them are there.
+    // A fork's edge after its sides, if both of them are there.
     fn add_fork_if(&mut self, both: bool, spare: &mut Spare) -> Result<(), Memory>
         ensures edges { OnOk result (self.new.edges ≡ self.old.edges ++ fork_if both) }
         ensures same { OnOk result (self.new.there ≡ self.old.there) }
@@ -218,9 +218,9 @@ impl CodeForest {
         Ok(())
     }
 
-    /// A label in front of the last tree. What stands in front of it already is put behind the
-    /// label: of two labels that a fork has parted the one below is copied, which is as long as the
-    /// fork has lived.
+    /// A label in front of the last tree. What is in front of it already is put after the label: of
+    /// two labels that a fork has parted the one below is copied, which is as long as the fork has
+    /// lived.
     pub fn put_label(&mut self, label: Vec<Symbol>, spare: &mut Spare) -> Result<(), Memory>
         ensures { OnOk result ((rs : List (Option (Grown Symbol ℕ)))
             → HasCodeTrees as_is self.old rs
@@ -239,8 +239,8 @@ impl CodeForest {
         Ok(())
     }
 
-    /// The only tree of `fresh`, whose labels are turned, becomes the last tree here, behind a
-    /// label.
+    /// The only tree of `fresh`, whose labels are turned, becomes the last tree here, with a label
+    /// in front.
     pub fn graft(
         &mut self,
         fresh: &mut CodeForest,

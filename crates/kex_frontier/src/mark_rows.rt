@@ -8,7 +8,7 @@ use kex_code::memory::Memory;
 use std::alloc::Global;
 use std::marker::Model;
 
-/// By what a sum is multiplied for each word more, so that all bits before move the high ones.
+/// The factor of a sum for each word more, so that all bits before move the high ones.
 const MULTIPLIER: u64 = 0x517c_c1b7_2722_0a95;
 
 // A sum that rows which differ seldom share.
@@ -20,7 +20,7 @@ fn sum_of(words: &[u64]) -> usize {
     (sum >> 32) as usize
 }
 
-// So many of the words, from a place on.
+// As many of the words as a row has, from a place on.
 fn part(words: &[u64], from: usize, width: usize) -> &[u64]
     requires { from + width ≤ length words.now }
     ensures { result.now ≡ take width (drop from words.now) }
@@ -35,9 +35,9 @@ fn note(slots: &mut [Option<u32>], slot: usize, number: u32) {
     }
 }
 
-/// Rows of one width, by number. They stand side by side.
+/// Rows of one width, by number. They are stored side by side.
 ///
-/// A row is looked for in the slot that the sum of its words says, and in those behind it up to the
+/// A row is looked for in the slot that the sum of its words says, and in those after it up to the
 /// first that has no number. What slots say is only a hint: the words decide.
 #[derive(Drop)]
 pub struct MarkRows {
@@ -60,7 +60,7 @@ impl Model for MarkRows {
 }
 
 impl MarkRows {
-    /// With room for so many rows.
+    /// With room for `most` rows.
     pub fn new(alloc: Global, width: usize, most: usize) -> Result<MarkRows, Memory>
         requires few { most ≤ 4096 }
         requires room { most * width ≤ 524288 }
@@ -102,7 +102,7 @@ impl MarkRows {
         number < self.len() && *self.words_at(number) == *words
     }
 
-    /// The number of a row that is there; else the slot where that number may stand.
+    /// The number of a row that is there; else the slot where that number may be put.
     pub fn find(&self, row: &Row) -> Result<usize, usize>
         ensures { IfOk result (λ n. (n < length self.now.rows)
             × (get_or self.now.rows n [] ≡ row.now)) }
@@ -121,7 +121,7 @@ impl MarkRows {
         Err(count)
     }
 
-    /// Adds a row, whose number may stand in a slot. Gives the number; nothing where there is no
+    /// Adds a row, whose number may be put into a slot. Gives the number; nothing where there is no
     /// room.
     pub fn add(&mut self, row: &Row, slot: usize) -> Option<usize>
         requires { length row.now ≡ self.old.width }

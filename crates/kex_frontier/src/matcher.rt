@@ -71,8 +71,8 @@ fn mark_ways(row: &mut Row, fresh: &mut Row, node: &MNode, end: usize, count: us
 }
 
 // Marks what is reached without a byte from the places that are marked. Each of these is gone
-// through once, whatever loops there are: those that still have to be stand in the second row,
-// which is only room.
+// through once, whatever loops there are: those that still have to be are in the second row, which
+// is only room.
 fn close(nodes: &[MNode], row: &mut Row, fresh: &mut Row)
     requires row { length nodes.now / 64 < length row.old }
     requires fresh { length fresh.old ≡ length row.old }

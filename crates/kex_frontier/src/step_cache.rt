@@ -24,7 +24,7 @@ const MOST_WORDS: usize = 524_288;
 /// How many bytes go by bare rows, for each that was learnt, where that didn't pay.
 const PATIENCE: usize = 8;
 
-// How many rows there may be, of a width and with ways for so many classes.
+// How many rows there may be, of a width and with ways for `count` classes.
 fn most_rows(width: usize, count: usize) -> usize
     requires { width + count < 2 ^ 63 }
     ensures few { result ≤ 4096 }
@@ -108,7 +108,7 @@ impl Model for StepCache {
 }
 
 impl StepCache {
-    /// With no row, and with room for rows of so many words, up to 4,096 rows and 4 MiB.
+    /// With no row, and with room for rows of `width` words, up to 4,096 rows and 4 MiB.
     pub fn new(alloc: Global, classes: Partition, width: usize) -> Result<StepCache, Memory>
         requires { width < 2 ^ 32 }
         ensures { IfOk result (λ c. c
@@ -198,7 +198,7 @@ impl StepCache {
         Some(at)
     }
 
-    // Where a row stands. It is added if it isn't there, and if there is room.
+    // Where the ways of a row begin. The row is added if it isn't there, and if there is room.
     fn keep(&mut self, row: &Row) -> Option<u32>
         requires { length row.now ≡ self.old.width }
         ensures some { IfSome result (λ at. IsKeptAt self.new at row.now) }

@@ -25,7 +25,7 @@ pub enum VisitTask {
     Merge,
 }
 
-/// What walks use again and again. The labels in `fresh` are turned: what is put in front stands at
+/// What walks use again and again. The labels in `fresh` are turned: what is put in front is at
 /// their ends.
 #[derive(Drop)]
 pub struct VisitTools {

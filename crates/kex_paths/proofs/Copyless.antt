@@ -1,4 +1,4 @@
--- Each old register stands at most once in an update: they rise in it.
+-- Each old register is at most once in an update: they rise in it.
 use Rattle.std.proofs.Common.{◌≡◌, ℕ, suc, false, length, replicate, ◌+◌, ◌<◌, ◌≤◌, Bool, List, [], ◌∷◌, ◌++◌, Option, Some, None, refl, sym, ap, subst, ◌∙◌, append_assoc, append-nil, arith}
 use Rattle.kex_code.specs.declared.symbol.Symbol.TheVariants.{L, R}
 use Rattle.kex_model.specs.Moves.{Move, symbol_of}

@@ -36,14 +36,14 @@ module _ (cells : List LabelCell) where
       let here : suc m - 1 ≡ m = omega arith in
       sym (got cells m c d f) ∙ ap (λ z. get_or cells z c) (sym here) ∙ sym e
 
-  -- behind which stands an earlier label
+  -- after which comes an earlier label
   pub label_rest : (n : ℕ) (xs : List Part) (c : LabelCell) → 0 < n → c ≡ get_or cells (n - 1) c → IsLabel cells n xs → c.rest < n
   label_rest n xs c some e no_parts = let bad : ⊥ = omega (arith, some) in absurd bad
   label_rest n xs c some e (first_part {n = m} {c = d} f le h) =
       let less : d.rest < suc m = omega (arith, le) in
       subst (λ z. z.rest < suc m) (one_cell m c d e f) less
 
-  -- its part is the next, and what is behind it is left
+  -- its part is the next, and what comes after it is left
   pub label_next : (n : ℕ) (c : LabelCell) (ps xs rest : List Part) → 0 < n → c ≡ get_or cells (n - 1) c → IsLabel cells n rest → ps ++ rest ≡ xs → (more : List Part) × IsLabel cells c.rest more × ((ps ++ c.part ∷ []) ++ more ≡ xs)
   label_next n c ps xs rest some e no_parts same = let bad : ⊥ = omega (arith, some) in absurd bad
   label_next n c ps xs rest some e (first_part {n = m} {c = d} {xs = ys} f le h) same =

@@ -54,7 +54,7 @@ visit_puts (passes_on lt e m v) = visit_puts v
 puts_in_order : (c : List Part) → ArePuts c → ArePartsInOrder c
 puts_in_order c (d, e) = record { registers = []; read = false; symbols = d; whole = e; between = λ r s. absurd (r refl) }
 
--- the label of a whole tree: symbols stand in it only behind the byte, so old registers may go before them
+-- the label of a whole tree: symbols are in it only after the byte, so old registers may go before them
 pub record IsRootLabel (c : List Part) : Type 0 where
   pub order : ArePartsInOrder c
   pub read_first : order.symbols ≢ [] → order.read ≡ true

@@ -29,7 +29,7 @@ behind_next zero ts = refl
 behind_next (suc n) [] = refl
 behind_next (suc n) (t ∷ ts) = behind_next n (sides_of t.tree ++ ts)
 
--- behind all nodes of a tree stand the trees behind it
+-- after all nodes of a tree come the trees after it
 pub behind_tree : (tree : Labelled Part ℕ) (label : List Part) (ts : List (Grown Part ℕ)) (n : ℕ) → trees_behind (size_of (shape_of tree) + n) (record { label = label; tree = tree } ∷ ts) ≡ trees_behind n ts
 behind_tree (tip p) label ts n =
     let one : 1 + n ≡ suc n = omega arith in
@@ -43,7 +43,7 @@ behind_tree (fork x l y r) label ts n =
 pub none_behind : (a : Grown Part ℕ) → trees_behind (size_of (shape_of a.tree)) (a ∷ []) ≡ []
 none_behind a = let more : size_of (shape_of a.tree) ≡ size_of (shape_of a.tree) + 0 = omega arith in ap (λ z. trees_behind z (a ∷ [])) more ∙ behind_tree a.tree a.label [] 0
 
--- the token and the label of a node are the first of the trees behind those before it
+-- the token and the label of a node are the first of the trees after those before it
 pub token_at : (n : ℕ) (ts : List (Grown Part ℕ)) → slice_get (tokens_in ts) n ≡ slice_get (tokens_in (trees_behind n ts)) 0
 token_at zero ts = refl
 token_at (suc n) [] = refl

@@ -1,4 +1,4 @@
--- What parts stand for: lists, and the tree of registers.
+-- What parts mean: lists, and the tree of registers.
 use Rattle.std.proofs.Common.{◌≡◌, ℕ, suc, ◌+◌, List, [], ◌∷◌, ◌++◌, length, get_or, refl, sym, ap, ap₂, ◌∙◌, append_assoc, append-nil, length-append, arith}
 use Rattle.kex_code.specs.declared.symbol.Symbol.{Symbol}
 use Rattle.kex_model.specs.Labelled.{Labelled, tip, fork, labels_of, shape_of, size_of, map_labels}
@@ -18,7 +18,7 @@ pub labels_and_size : {A S : Type 0} (t : Labelled A S) → suc (length (labels_
 labels_and_size (tip p) = refl
 labels_and_size (fork x l y r) = omega (arith, labels_and_size l, labels_and_size r, length-append (labels_of l) (y ∷ labels_of r))
 
--- registers among which the labels stand, from number k on, make the tree again
+-- registers among which are the labels, from number k on, make the tree again
 pub registers_within : (b : ℕ) (t : Labelled Symbol ℕ) (pre post regs : List (List Symbol)) (k : ℕ) → regs ≡ pre ++ labels_of t ++ post → k ≡ length pre → map_labels (parts_code regs b) (numbered_tree k (shape_of t)) ≡ t
 registers_within b (tip p) pre post regs k e h = refl
 registers_within b (fork x l y r) pre post regs k e h =

@@ -1,4 +1,4 @@
--- Trees that stand on edges stand there still when more edges are added, or more labels.
+-- Trees on edges are there still when more edges are added, or more labels.
 use Rattle.std.proofs.Common.{◌≡◌, ◌≤◌, ℕ, zero, suc, List, [], ◌∷◌, ◌++◌, Option, Some, None, length, refl, subst, append-nil, arith}
 use Rattle.std.specs.Prelude.{slice_get}
 use Rattle.std.proofs.lemmas.Option.{slice_get_within}
@@ -55,7 +55,7 @@ module _ (e : EdgeStock) (x y : PathEdge) where
   tree_in_two : {k : TreeNode} {t : Labelled Part ℕ} → IsTreeAt e k t → IsTreeAt with_two k t
   tree_in_two {k = k} {t = t} h = subst (λ z. IsTreeAt (record { all = (e.all ++ x ∷ []) ++ y ∷ []; cells = z }) k t) (append-nil e.cells) (subst (λ z. IsTreeAt (record { all = (e.all ++ x ∷ []) ++ y ∷ []; cells = z }) k t) (append-nil (e.cells ++ [])) (stands_more (stock_and e (x ∷ []) []) (y ∷ []) [] (stands_more e (x ∷ []) [] h)))
 
-  -- trees stand there still
+  -- trees are there still
   pub trees_with_two : (roots : List (Option PathEdge)) (ts : List (Option (Grown Part ℕ))) → LeadToEach e roots ts → LeadToEach with_two roots ts
   trees_with_two roots ts h = subst (λ z. LeadToEach (record { all = (e.all ++ x ∷ []) ++ y ∷ []; cells = z }) roots ts) (append-nil e.cells) (subst (λ z. LeadToEach (record { all = (e.all ++ x ∷ []) ++ y ∷ []; cells = z }) roots ts) (append-nil (e.cells ++ [])) (trees_more (stock_and e (x ∷ []) []) (y ∷ []) [] roots ts (trees_more e (x ∷ []) [] roots ts h)))
 

@@ -90,7 +90,7 @@ module _ (moves : ℕ → Move ℕ) (b : ℕ) where
   pub going_token : (m : ℕ) (first : List ShapedTask) (k : ℕ) (x : TreeToken) (left : List TreeToken) (f : List Bool) (stack : List Task) (rs : List (Option (Grown Part ℕ))) → Going m first k (x ∷ left) f (OldTree ∷ stack) rs → Going m first (k + 1) left f (reverse (token_tasks moves b x) ++ stack) (token_dead moves b x ++ rs)
   going_token m first k x left f stack rs v = by v.shaped v.erased v.reads_left v.runs
     where
-      -- a tip, by what there is to do there
+      -- a tip, for each thing that there is to do there
       at_place : (p : ℕ) (mv : Move ℕ) → moves p ≡ mv → (js : List ShapedTask) → map task_of js ≡ stack → left ≡ tokens_left js → ((g : List Bool) (out : List (Option (Grown Part ℕ))) → RunsTasks moves b (tree (place p) ∷ js) k f rs g out → RunsTasks moves b first 0 (replicate m false) [] g out) → Going m first (k + 1) left f (reverse (read_tasks mv b) ++ stack) (read_dead mv b ++ rs)
       at_place p accept is js w t r = record { shaped = js; erased = w; reads_left = t; runs = λ g out q. r g out (None, f, dies (λ u a. nowhere (subst (λ z. Allows z (took b u)) is a)), q) }
         where

@@ -49,7 +49,7 @@ pub key_of_tokens : (s : Shape ℕ) → map token_number (tokens s) ≡ key_of s
 key_of_tokens (place p) = refl
 key_of_tokens (parts l r) = ap (λ z. 0 ∷ z) (map-append token_number (tokens l) (tokens r) ∙ ap₂ (λ u v. u ++ v) (key_of_tokens l) (key_of_tokens r))
 
--- a shape is known by its numbers, whatever stands behind
+-- a shape is known by its numbers, whatever comes after them
 one_key : (s t : Shape ℕ) (x y : List ℕ) → key_of s ++ x ≡ key_of t ++ y → (s ≡ t) × (x ≡ y)
 one_key (place p) (place q) x y e = let f : p ≡ q = cc in let g : x ≡ y = cc in (ap (λ z. place z) f, g)
 one_key (place p) (parts l r) x y e = let bad : ⊥ = cc in absurd bad

@@ -25,7 +25,7 @@ abbrev pub no_trees : Trees
 no_trees = record { edges = no_edges; roots = [] }
 
 -- the label of this number: 0 is the empty one, and n + 1 is that of cell n, which is a part and
--- the label behind it
+-- the label after it
 pub data IsLabel (cells : List LabelCell) : ℕ → List Part → Type 0 where
   no_parts : IsLabel cells 0 []
   first_part : {n : ℕ} {c : LabelCell} {xs : List Part} → slice_get cells n ≡ Some c → c.rest ≤ n

@@ -11,13 +11,13 @@ use Rattle.kex_paths.specs.declared.walk.TreeToken.TheVariants.{Fork, Tip}
 use Rattle.kex_paths.specs.Forests.{last_tree, trees_before}
 use Rattle.kex_paths.specs.Nexts.{Outline, IsOfShape, IsChange}
 
--- what is left of a node's tree, above the trees behind the node, of which the first is the last
+-- what is left of a node's tree, above the trees after the node, of which the first is the last
 abbrev pub node_left : (ℕ → Bool) → TreeToken → List (Option (Grown Part ℕ))
     → Option (Grown Part ℕ)
 node_left keep (Tip p) rs = restrict keep (tip p)
 node_left keep Fork rs = fork_of (last_tree rs) (last_tree (trees_before rs))
 
--- the trees behind a node that are not below it
+-- the trees after a node that are not below it
 abbrev pub trees_beside : TreeToken → List (Option (Grown Part ℕ)) → List (Option (Grown Part ℕ))
 trees_beside (Tip p) rs = rs
 trees_beside Fork rs = trees_before (trees_before rs)
@@ -27,7 +27,7 @@ abbrev pub sides_of : Labelled Part ℕ → List (Grown Part ℕ)
 sides_of (tip p) = []
 sides_of (fork x l y r) = record { label = x; tree = l } ∷ record { label = y; tree = r } ∷ []
 
--- the trees that stand behind the first n nodes in preorder
+-- the trees that come after the first n nodes in preorder
 abbrev pub trees_behind : ℕ → List (Grown Part ℕ) → List (Grown Part ℕ)
 trees_behind zero ts = ts
 trees_behind (suc n) [] = []

@@ -18,7 +18,7 @@ abbrev pub byte_if : Bool → List Part
 byte_if true = Input ∷ []
 byte_if false = []
 
--- old registers, each whole, then the byte that is read if it lies there, and then symbols: behind
+-- old registers, each whole, then the byte that is read if it lies there, and then symbols: after
 -- old registers only where the byte lies between
 pub record ArePartsInOrder (xs : List Part) : Type 0 where
   pub registers : List ℕ
@@ -35,7 +35,7 @@ EachList P [] = Unit {0}
 EachList P (xs ∷ rest) = P xs × EachList P rest
 
 -- the update with which a tree of this shape goes on with byte b: there is one; its lists are in
--- order; and the old registers rise in it, so that none stands twice
+-- order; and the old registers rise in it, so that none is there twice
 pub record Determines (g : Graph) (b : ℕ) (s : Shape ℕ) : Type 0 where
   pub one : (a a' : Option (Grown Part ℕ)) → IsNext g b s a → IsNext g b s a' → a ≡ a'
   pub in_order : (u : Change) (a : Grown Part ℕ) → IsNext g b s (Some a) → IsChange u a

@@ -1,5 +1,5 @@
--- How a path tree goes on with a byte, from its shape alone: old registers stand for the labels of
--- its edges.
+-- How a path tree goes on with a byte, from its shape alone: old registers have the labels of its
+-- edges.
 use Rattle.std.specs.Prelude.{◌≡◌, ℕ, suc, ◌<◌, ◌≤◌, Bool, true, false, List, [], ◌∷◌, ◌++◌, Option}
 use Rattle.std.specs.Prelude.{Some, map, length, replicate, MatchOption}
 use Rattle.kex_byteset.specs.Classes.{class_at}
@@ -103,7 +103,7 @@ ShowsFor old class r = (w : List ℕ) (c : List Symbol) (t : Labelled Symbol ℕ
     → HasClass old.machine class b
     → MatchOption r (¬ IsViableFor old.machine (w ++ b ∷ [])) (λ n. ShowsNext n.0 n.1 b w c t)
 
--- the numbers rise, from lo on and below hi: so each stands there at most once
+-- the numbers rise, from lo on and below hi: so each is there at most once
 abbrev pub RiseWithin : ℕ → ℕ → List ℕ → Type 0
 RiseWithin lo hi [] = Unit {0}
 RiseWithin lo hi (x ∷ xs) = (lo ≤ x) × (x < hi) × RiseWithin (suc x) hi xs

@@ -37,7 +37,7 @@ impl<'m> PathTree<'m> {
     }
 
     /// The tree that comes with a byte of a class, and the update; none exactly where no byte of
-    /// the class can come. The registers stand for the labels of the tree's edges, in preorder.
+    /// the class can come. The registers have the labels of the tree's edges, in preorder.
     pub fn advance(
         &self,
         alloc: Global,

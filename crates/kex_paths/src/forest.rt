@@ -27,7 +27,7 @@ pub struct PathEdge {
     pub node: TreeNode,
 }
 
-/// A part of a label, and the number of the label behind it.
+/// A part of a label, and the number of the label after it.
 #[derive(Clone, Copy, Debug, PartialEq, Eq)]
 pub struct LabelCell {
     pub part: Part,
@@ -148,7 +148,8 @@ impl PathEdges {
     }
 }
 
-/// Trees side by side, each with an edge to its root; the edges below the roots stand by number.
+/// Trees side by side, each with an edge to its root; the edges below the roots are stored by
+/// number.
 #[derive(Drop)]
 pub struct Forest {
     edges: PathEdges,

@@ -5,8 +5,7 @@ ghost use Rattle.kex_model.specs.Labelled.{Shape};
 ghost use Rattle.kex_machine.specs.Nodes.{Graph};
 ghost use Rattle.kex_paths.specs.Laws.{Determines, DeterminesFirst, OneShape};
 
-/// Shape and byte determine the update; its lists are in order, and no old register stands twice in
-/// it.
+/// Shape and byte determine the update; its lists are in order, and no old register is twice in it.
 pub fn determined()
     ensures { (g : Graph) (b : ℕ) (s : Shape ℕ) → Determines g b s }
 {}

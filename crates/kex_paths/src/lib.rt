@@ -1,7 +1,7 @@
 //! Path trees: how the tree of a text's survivors goes on with a byte, from its shape and the
 //! byte's class alone.
 //!
-//! Stands on machines and on the updates of tables. Old registers stand for the labels of a tree's
+//! Builds on machines and on the updates of tables. Old registers have the labels of a tree's
 //! edges, in preorder; the clauses of `PathTree::start` and `PathTree::advance` say what `IsNext`
 //! determines and that it is the tree of the text.
 #![tactic(auto)]

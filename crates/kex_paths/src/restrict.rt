@@ -51,7 +51,7 @@ fn put_label(label: &[Part], forest: &mut Forest) -> Result<(), Memory>
     Ok(())
 }
 
-// The label of the edge to a node, by its number in preorder: before the root stands what is passed
+// The label of the edge to a node, by its number in preorder: before the root comes what is passed
 // on.
 fn label_at(update: &Update, node: usize) -> &[Part]
     requires { node < length update.now.regs + 1 }
@@ -86,7 +86,7 @@ fn put_tree(
     Ok(())
 }
 
-// So many labels, each empty.
+// `count` labels, each empty, and an empty one to pass on.
 fn blank(alloc: Global, count: usize) -> Result<Update, Memory>
     ensures { IfOk result (λ u. u ≡ record { out = []; regs = replicate count [] }) }
 {

@@ -82,7 +82,7 @@ loop-task-preserved-in-Continue-branch-6 c =
 pub meet-requires-clause-below : goal.meet-requires-clause-below
 meet-requires-clause-below c = in_range (goal.at.meet-requires-clause-below c).In-Some c.in-Visit.n c.in-Visit.is
 
--- the stack is longer by what was on top
+-- the stack was longer by the task that was on top
 one_off : (c : In-Some) → vec_len c.loop-task.tasks ≡ suc (length c.pop.new.self.items)
 one_off c = omega (arith, c.loop-task.tasks.ok.0, ap length c.in-Some.ensures.items, length-append c.pop.new.self.items (c.in-Some.task ∷ []))
 

@@ -13,7 +13,7 @@ use Rattle.kex_frontier.proofs.frontier.Frontier.new.Goals as goal
 pub walk-requires-clause-range : goal.walk-requires-clause-range
 walk-requires-clause-range c = subst (λ z. StaysWithin z) (sym c.nodes-nodes.ensures.same) (stays_within c.machine.result.now c.nodes-nodes.ensures.in_range)
 
--- the first tree stands alone
+-- the first tree is alone
 first_tree : (c : In_ok-settle) → HasCodeTrees as_is c.graft.new.self (c.in_ok-walk.ensures.tree.0 ∷ [])
 first_tree c =
     let t = c.in_ok-walk.ensures.tree in
