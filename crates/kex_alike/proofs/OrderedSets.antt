@@ -171,7 +171,7 @@ module _ (g : Graph) where
   pub test_with_order : (most : ℕ) → SomeTestHasMore Leads IsNodeState most → SomeAsksMore g most
   test_with_order most (s, is, (front, p, back, e, some, more)) = (s, is, (front, p, back, sym (same_leaves s) ∙ e, some, with_order p front most more))
 
-  -- there aren't both more pairs and at most so many
+  -- there aren't both more than `most` pairs and n of them at most
   not_both : (p : ℕ) (Q : List ℕ) (n most : ℕ) → n ≤ most → HasPairs g p Q n → HasMorePairs g p Q most → ⊥
   not_both p Q n most le h (us, long, different, each) =
       let few : length us ≤ length h.pairs = different_fits us h.pairs different (λ u i. h.all u (each u i)) in

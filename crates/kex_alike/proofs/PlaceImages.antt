@@ -68,7 +68,7 @@ module _ {S T : Type 0} (R : S → T → Type 0) where
   leaves_match (place p) (parts x y) h = absurd h
   leaves_match (parts l r) (place q) h = absurd h
 
-  -- a list with a partner in it, and what stands before and behind it
+  -- a list with a partner in it, and what comes before and after it
   pub record HasPartner (front : List S) (p : S) (ys : List T) : Type 0 where
     pub before : List T
     pub at : T

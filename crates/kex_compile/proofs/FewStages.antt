@@ -26,7 +26,7 @@ shown (n ∷ ns) made at (s ∷ ss) i h = ap suc (shown ns made at ss (i + 2) h.
 shown [] made at (s ∷ ss) i h = absurd h
 shown (n ∷ ns) made at [] i h = absurd h
 
--- where so many more are named, one of them has this number
+-- where more than k are left to be named, one of them has the number k further on
 numbered : (k : ℕ) (ns : List (List ℕ)) (at : ℕ → ℕ) (i number : ℕ) → k < length ns → (place : ℕ) × IsAmong (stage_checks ns at i number) (Staged place (number + k))
 unfolding stage_checks
 numbered k [] at i number lt = absurd (omega arith)

@@ -1,4 +1,4 @@
--- Lists whose items bear numbers at which they stand.
+-- Lists whose items bear numbers at which they are.
 use Rattle.std.proofs.Common.{◌≡◌, ◌+◌, ◌<◌, ◌≤◌, ℕ, zero, suc, List, [], ◌∷◌, ◌++◌, ◌⊎◌, inl, inr, ⊎_elim, length, map, refl, sym, ap, subst, ◌∙◌, arith}
 use Rattle.std.specs.Prelude.{Some}
 use Rattle.std.proofs.lemmas.Option.{slice_get_within}
@@ -6,7 +6,7 @@ use Rattle.kex_code.specs.Codes.{HasNumber}
 use Rattle.kex_model.proofs.Tables.{get_last, get_more, some_same}
 use Rattle.kex_compile.specs.Stages.{StandAtNumbers}
 
--- what stands in a list with one item more
+-- what is in a list with one item more
 number-push : {A : Type 0} (xs : List A) (x y : A) (i : ℕ) → HasNumber (xs ++ x ∷ []) y i → HasNumber xs y i ⊎ ((i ≡ length xs) × (x ≡ y))
 number-push [] x y zero k = inr (refl, some_same x y k)
 number-push [] x y (suc i) k = cc
@@ -45,7 +45,7 @@ module _ {A : Type 0} (number : A → ℕ) where
       let within : i < length xs = slice_get_within xs i x at in
       more xs x s.0 s.1 (let le = s.2 in omega (arith, le, within)) (get_more xs (x ∷ []) s.0 x s.3) stand
 
-  -- an item among others, which bears its own number or stands before
+  -- an item among others, which bears its own number or is among those before
   pub stand-at : (all xs ys : List A) (y : A) → all ≡ xs ++ y ∷ ys → StandAtNumbers number all → (n : ℕ) × (number y ≡ suc n) × (n ≤ length xs) × (n < length xs → HasNumber xs y n)
   stand-at all xs ys y split stand =
       let s = stand (length xs) y (subst (λ z. HasNumber z y (length xs)) (sym split) (number-seam xs ys y)) in

@@ -1,4 +1,4 @@
--- Pairs of nodes of two programs that show the same parts of a text, in the order of the text. No node stands in two of them.
+-- Pairs of nodes of two programs that show the same parts of a text, in the order of the text. No node is in two of them.
 use Rattle.std.proofs.Common.{◌≡◌, ℕ, suc, ◌<◌, ◌≤◌, ◌+◌, ◌*◌, Bool, List, [], ◌∷◌, ◌++◌, ◌⊎◌, inl, inr, ⊎_elim, Option, Some, refl, sym, ap, ◌∙◌, subst, arith}
 use Rattle.std.specs.Prelude.{slice_get}
 use Rattle.kex_byteset.specs.Sets.{has}
@@ -169,7 +169,7 @@ module _ (nodes nodes' : List Node) (N G : ℕ → ℕ → Type 0) where
         rising = (l, rising_from mid (suc (key node)) ps high u rising);
       }
 
-  -- pairs of two parts, one behind the other
+  -- pairs of two parts, one after the other
   pub record Beside (l l' r r' low high : ℕ) : Type 0 where
     pub pairs : List Pair
     pub left : Joins pairs l l'

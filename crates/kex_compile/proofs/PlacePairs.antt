@@ -106,7 +106,7 @@ module _ (S : ℕ → ℕ → Type 0) where
 -- ---- places of alike programs
 
 module _ (P Q : Grammar) (a : Alike P Q) (known : (name at : ℕ) → IsUse P name at → IsDefined P.definitions name) where
-  -- nodes that are paired, and stand in a definition
+  -- nodes that are paired, of which the first is in a definition
   abbrev pub Partners : ℕ → ℕ → Type 0
   Partners n m = Joins a.pairs n m × IsWithin P n
 

@@ -173,7 +173,7 @@ module _ (P Q : Grammar) (a : Alike P Q) where
       let f = first_on R N G forth back name name' n P.definitions Q.definitions a.definitions h in
       subst (λ z. R z (root_of Q name')) (sym (root_is P name f.0 f.2)) (subst (λ z. R f.0.root z) (sym (root_is Q name' f.1 f.3)) f.4)
 
-  -- the root of a name's first definition stands in it
+  -- the root of a name's first definition is in it
   pub root_within : (name name' : ℕ) → N name name' → IsDefined P.definitions name → IsWithin P (root_of P name)
   root_within name name' n h =
       let f = first_on R N G forth back name name' n P.definitions Q.definitions a.definitions h in

@@ -28,7 +28,7 @@ different_of : {A : Type 0} (xs : List A) → AllDifferent xs → Different xs
 different_of [] d = tt
 different_of (x ∷ xs) d = (d.0, different_of xs d.1)
 
--- with at most so many states there are no more
+-- with at most `max` states there are no more than that
 pub not_more : {S : Type 0} (moves : S → Move S) (start : S) (n max : ℕ) → HasStates moves start n → n ≤ max → HasMoreStates moves start max → ⊥
 not_more moves start n max h le (xs, long, different, each) =
     let fits = different_fits xs h.states (different_of xs different) (λ s i. h.all s (each s i)) in
@@ -115,7 +115,7 @@ module _ (limits : Limits) where
   first_more ms m None n plans number none on few more h = (first-then (HasMoreNodes limits) ms None m few (none_so_far ms None plans on h), first-now (HasMoreNodePairs limits) ms None m n number more h.pairs)
   first_more ms m (Some k) n plans number none on few more h = cc
 
-  -- or which comes behind the first
+  -- or which comes after the first
   pub known_more : (ms : List Graph) (m : Graph) (first : Option ℕ) (plans : Plans) → is_some first ≡ true → (HasMoreNodes limits m → ⊥) → HavePlansOrFirst limits ms first plans → HavePlansOrFirst limits (ms ++ m ∷ []) first plans
   known_more ms m None plans some few h = cc
   known_more ms m (Some n) plans some few h = (first-then (HasMoreNodes limits) ms None m few h.0, first-stays (HasMoreNodePairs limits) ms n m h.1)
@@ -165,7 +165,7 @@ module _ (limits : Limits) (P : Grammar) where
   none_more total [] (m ∷ ms) s h r a q = s
   none_more total (x ∷ rs) [] s h r a q = s
 
-  -- they have so many in all
+  -- they have `total` states in all
   pub states_of_stages : (total : ℕ) (rs : List ℕ) (ms : List Graph) → AreStages P rs ms → NodeStates limits ms total → HaveStatesInAll P rs total
   states_of_stages total [] [] s h = h
   states_of_stages total (x ∷ rs) (m ∷ ms) s (own, rest, has, few, more, e) = (own, rest, (same_states P x m s.0.kept own).count.1 has, states_of_stages rest rs ms s.1 more, e)

@@ -129,7 +129,7 @@ pub record Plans : Type 0 where
   pub places : ℕ
   pub states : ℕ
 
--- each item bears a number, counted from 1, and stands there too: at its own place or before it
+-- each item bears a number, counted from 1, and is there too: at its own place or before it
 abbrev pub StandAtNumbers : {A : Type 0} → (A → ℕ) → List A → Type 0
 StandAtNumbers {A} number xs = (i : ℕ) (x : A) → HasNumber xs x i → (n : ℕ)
     × (number x ≡ suc n) × (n ≤ i) × HasNumber xs x n

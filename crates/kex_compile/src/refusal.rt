@@ -76,7 +76,7 @@ pub enum CompileRefusal {
     Unknown(u32),
     #[error("there is no stage")]
     NoStart,
-    /// The call at this offset comes back, and stands outside tail position.
+    /// The call at this offset comes back, and is outside tail position.
     #[error("the call at byte {0} comes back outside tail position")]
     NotTail(u32),
     /// The stage has more than `MOST_PLACES` places.

@@ -55,7 +55,7 @@ olds_in-append : (xs ys : List (List Part)) → olds_in (xs ++ ys) ≡ olds_in x
 olds_in-append [] ys = refl
 olds_in-append (x ∷ xs) ys = ap (λ z. olds x ++ z) (olds_in-append xs ys) ∙ sym (append_assoc (olds x) (olds_in xs) (olds_in ys))
 
--- what is read behind a label
+-- what is read after a label
 abbrev reads_behind : List Part → Option (Grown Part ℕ) → List ℕ
 reads_behind x None = []
 reads_behind x (Some a) = olds x ++ reads_in (Some a)

@@ -59,7 +59,7 @@ module _ {A B : Type 0} (h : List A → List B) (empty : h [] ≡ []) (joins : (
   restricted_alike_if None = refl
   restricted_alike_if (Some g) = map_labels-with_prefix h empty joins g.label (restrict keep g.tree) ∙ ap (λ z. with_prefix (h g.label) z) (restricted_alike g.tree)
 
--- a member, with those before and behind it
+-- a member, with those before and after it
 record Stands {A : Type 0} (xs : List A) (x : A) : Type 0 where
   pub front : List A
   pub back : List A

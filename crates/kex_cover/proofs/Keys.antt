@@ -1,4 +1,4 @@
--- What is put among others that are told apart by what they show.
+-- What is put among others that differ in what they show.
 use Rattle.std.proofs.Common.{◌≡◌, Bool, true, false, List, [], ◌∷◌, ◌++◌, ◌⊎◌, inl, inr, ⊎_elim, map, length, ◌+◌, ◌<◌, ◌≤◌, refl, sym, ap, subst, ◌∙◌, length-append, arith}
 use Rattle.std.specs.Prelude.{◌||◌, not, MatchBool}
 use Rattle.std.specs.List.{list_any}

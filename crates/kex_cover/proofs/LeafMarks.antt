@@ -22,7 +22,7 @@ among_at [] i x e = cc
 among_at (y ∷ xs) zero x e = inl (cc)
 among_at (y ∷ xs) (suc i) x e = inr (among_at xs i x e)
 
--- in a list without repetition a member stands at one place
+-- in a list without repetition a member is at one place
 pub one_place : {A : Type 0} (xs : List A) (i j : ℕ) (x : A) → AllDifferent xs → slice_get xs i ≡ Some x → slice_get xs j ≡ Some x → i ≡ j
 one_place [] i j x d e f = cc
 one_place (y ∷ xs) zero zero x d e f = refl
@@ -124,7 +124,7 @@ module _ (g : Graph) where
         other : (front : List ℕ) (p : ℕ) (back : List ℕ) → leaves ≡ front ++ p ∷ back → (length front ≡ n → ⊥) → q ≡ p → ⊥
         other front p back is apart e = apart (one_place leaves (length front) n p different (ap (λ z. slice_get z (length front)) is ∙ here_at front back p) (at ∙ ap (λ z. Some z) e))
 
-  -- at the end each leaf is told
+  -- at the end the marks are right for each leaf
   pub told_all : (leaves : List ℕ) (n : ℕ) (marks : List Bool) → length leaves ≤ n → AreToldTo g n leaves marks → AreTold g leaves marks
   told_all leaves n marks le h = λ front p back is. h.tells front p back is (let lt = within front p back in omega (arith, lt, le, ap length is))
     where

@@ -40,7 +40,7 @@ stepped nodes b from row next h k = record {
   all = λ q (p, i, (t, a, w)). k.all p t q (h.all p i) (is_byte_way a) w;
 }
 
--- a list that falls, and a lower number behind it
+-- a list that falls, and a lower number after it
 pub falls_more : (xs : List ℕ) (n : ℕ) → Falls xs → ((y : ℕ) → IsAmong xs y → n < y) → Falls (xs ++ n ∷ [])
 falls_more [] n h low = ((λ y i. absurd i), tt)
 falls_more (x ∷ xs) n h low = ((λ y i. ⊎_elim (λ j. h.0 y j) (λ j. ⊎_elim (λ e. subst (λ z. z < x) e (low x (inl refl))) (λ a. absurd a) j) (among-append xs (n ∷ []) y i)), falls_more xs n h.1 (λ y i. low y (inr i)))

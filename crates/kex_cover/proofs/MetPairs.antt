@@ -155,7 +155,7 @@ module _ (g : Graph) where
       let w = subst (λ z. GetsTo g z x e) here r.2 in
       (x, (w.0, e, w.1, acc, w.3), (λ q j (ks, e', walk, acc', bytes). none (e', s.all q e' j (ks, walk, subst (λ z. IsWaiting z) (sym acc') tt, bytes), acc')))
 
-  -- covered by what the pairs say: one way
+  -- where it is covered the pairs say so: one way
   pub covered_holds : (p : ℕ) (Q : List ℕ) → IsCoveredBy g p Q → PairsHold g p Q
   covered_holds p Q covered u (x, f, s, some) (e, i, acc) =
       let r = f.real e i in

@@ -20,7 +20,7 @@ use Rattle.kex_cover.proofs.LeftLeaves.{apart_by, equal_by}
 pub get_on : {A : Type 0} (xs ys : List A) (i : ℕ) (x : A) → Begins ys xs → slice_get xs i ≡ Some x → slice_get ys i ≡ Some x
 get_on xs ys i x b e = ap (λ z. slice_get z i) b.1 ∙ get_more xs b.0 i x e
 
--- what stands in a list after one item was changed
+-- what is in a list after one item was changed
 set_get : {A : Type 0} (xs : List A) (at i : ℕ) (x y : A) → slice_get (set xs at x) i ≡ Some y → (slice_get xs i ≡ Some y) ⊎ ((i ≡ at) × (x ≡ y))
 set_get [] at i x y e = cc
 set_get (z ∷ xs) zero zero x y e = inr (refl, some_same x y e)

@@ -113,7 +113,7 @@ pub record IsOptimal (g : Graph) (t : Transducer) : Type 0 where
 -- ---- how much is asked
 
 module _ (g : Graph) (most : ℕ) where
-  -- the tests of all leaves but the first, each against all leaves before it, have at most so many
+  -- the tests of all leaves but the first, each against all leaves before it, have at most `most`
   -- pairs
   abbrev pub AsksAtMost : List ℕ → Type 0
   AsksAtMost leaves = (front : List ℕ) (p : ℕ) (back : List ℕ) → leaves ≡ front ++ p ∷ back

@@ -7,7 +7,7 @@ use Rattle.kex_model.specs.States.{AllDifferent}
 use Rattle.kex_machine.specs.Nodes.{Graph, node_moves}
 use Rattle.kex_machine.specs.Covering.{EndsBy}
 
--- the numbers fall, so each stands there once
+-- the numbers fall, so each is there once
 abbrev pub Falls : List ℕ → Type 0
 Falls [] = Unit {0}
 Falls (x ∷ xs) = ((y : ℕ) → IsAmong xs y → y < x) × Falls xs

@@ -28,7 +28,7 @@ AreWaiting g xs = (p : ℕ) → IsAmong xs p → (p < length g.nodes) × Waits (
 abbrev pub AreWithin : ℕ → List ℕ → Type 0
 AreWithin n xs = (p : ℕ) → IsAmong xs p → p < n
 
--- both rows have room for so many places
+-- both rows have room for `count` places
 abbrev pub HaveRoom : ℕ → MarkPair → Type 0
 HaveRoom count rows = (count / 64 < length rows.from)
     × (length rows.reached ≡ length rows.from)

@@ -87,7 +87,7 @@ fn listed(alloc: Global, samples: &[Option<u8>; 256]) -> Result<Vec<u8>, Memory>
     Ok(bytes)
 }
 
-// No way of so many classes is known.
+// No way is known, of `count` classes.
 fn no_ways(alloc: Global, count: usize) -> Result<Vec<Option<usize>>, Memory>
     ensures { IfOk result (λ ways. ways.items ≡ replicate count None) }
 {

@@ -1,4 +1,4 @@
-// The rows of a table by what is left of its states' trees.
+// The rows of a table, made from what is left of its states' trees.
 
 ghost use Rattle.std.specs.Prelude.{◌≡◌, ℕ, ◌<◌, Bool, List, Some, IfOk, length, get_or, slice_get};
 ghost use Rattle.std.specs.Prelude.{false};

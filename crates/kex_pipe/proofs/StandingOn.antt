@@ -17,7 +17,7 @@ use Rattle.kex_pipe.specs.declared.turn.Stop.{Stop}
 use Rattle.kex_pipe.specs.declared.turn.Turn.{Ghosts}
 use Rattle.kex_pipe.proofs.Transfers.{AllUsable, all-set}
 
--- a bounded worker stands for what another stands for that answers and follows so
+-- a bounded worker stands for what another stands for, if it answers and follows as that one does
 pub stands-on : (Gives Gives' : List ℕ → Bool → Answer → Type 0) (Open Open' : List ℕ → List ℕ → Type 0) (stop : Option Stop) (over : Bool) (h : Option StageFed) → ((w : List ℕ) (e : Bool) (a : Answer) → Gives w e a → Gives' w e a) → ((w text : List ℕ) → Open w text → Open' w text) → StandsAs Gives Open stop over h → StandsAs Gives' Open' stop over h
 stands-on Gives Gives' Open Open' stop over None gives opens s = (opens [] [] s.0, s.1, s.2)
 stands-on Gives Gives' Open Open' stop over (Some h) gives opens s = (gives h.bytes h.ended h.answer s.0, s.1, s.2, λ e n. opens h.bytes h.answer.text (s.3 e n))

@@ -1,4 +1,4 @@
--- What is answered by what is viable, said, parsed and meant: one answer, which grows, and whose stop stands.
+-- What is answered, given what is viable, said, parsed and meant: one answer, which grows, and whose stop stays.
 use Rattle.std.proofs.Common.{◌≡◌, ℕ, ◌<◌, ◌≤◌, ◌+◌, Bool, true, false, ◌&&◌, List, [], ◌∷◌, ◌++◌, Some, None, length, refl, sym, ap, subst, ◌∙◌, append-nil, append_assoc, arith, ⊎_elim, take, length-append}
 use Rattle.std.specs.Prelude.{is_none, IsSome}
 use Rattle.kex_code.specs.Codes.{Begins}

@@ -20,8 +20,8 @@ abbrev pub fate_of : Option Stop → Fate
 fate_of None = On
 fate_of (Some s) = Stopped
 
--- where it stops that was given so many bytes: at a byte that was refused, or where a piece goes
--- past the limit
+-- where it stops after `count` bytes: at a byte that was refused, or where a piece goes past the
+-- limit
 abbrev pub stop_after : Option ℕ → ℕ → Bool → Option Stop
 stop_after (Some at) count past = Some (record { at = at; why = Byte })
 stop_after None count true = Some (record { at = count; why = Limit })

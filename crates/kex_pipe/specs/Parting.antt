@@ -6,7 +6,7 @@ use Rattle.kex_pipe.specs.declared.seat.Seat.{Seat as Seated}
 use Rattle.kex_pipe.specs.declared.turn.Turn.{Ghosts}
 
 module _ {T : Type 0} (t : Ghosts T) where
-  -- a seat whose stage stands for what it stood for, with what lay before and behind it
+  -- a seat whose stage stands for what it stood for, with what lay before and after it
   pub record SeatStays (old new : Seated T t) : Type 0 where
     pub plan : t.plan new.staged.stage ≡ t.plan old.staged.stage
     pub stands : (h : Option StageFed) → t.stands old.staged.stage h → t.stands new.staged.stage h

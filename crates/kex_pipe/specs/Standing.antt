@@ -15,7 +15,7 @@ use Rattle.kex_pipe.specs.declared.turn.Turn.{Ghosts}
 
 module _ {T : Type 0} (t : Ghosts T) where
   -- each stage sits in its seat; what came to it is what it has taken and then what waits, and
-  -- nothing lies in its outbox; behind the last stage, what was taken from the output and then what
+  -- nothing lies in its outbox; after the last stage, what was taken from the output and then what
   -- is in hand
   abbrev pub Line : List StreamItem → List t.Plan → List (Seated T t) → List Progress → Inbox
       → List ℕ → Type 0

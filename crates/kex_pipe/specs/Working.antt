@@ -5,12 +5,12 @@ use Rattle.std.specs.Prelude.{None, is_none, IsSome, length, take}
 use Rattle.kex_code.specs.Codes.{Begins}
 use Rattle.kex_model.specs.Answers.{Answer, stopped_answer, at_byte, at_end, at_limit, LongestGood}
 
--- by what a stage works, and the most bytes that it takes
+-- a stage's machine, and the most bytes that it takes
 pub record BoundedPlan (M : Type 0) : Type 0 where
   pub machine : M
   pub limit : ℕ
 
--- a piece was read behind w, on which this text is said: the bytes can go on, or they stop it at a
+-- a piece was read after w, on which this text was said: the bytes can go on, or they stop it at a
 -- byte
 pub record ReadMore (Says : List ℕ → Option ℕ → List ℕ → Type 0)
     (Follows : List ℕ → List ℕ → Type 0)
@@ -20,19 +20,19 @@ pub record ReadMore (Says : List ℕ → Option ℕ → List ℕ → Type 0)
   pub says : Says (w ++ piece) at (text ++ more)
   pub follows : at ≡ None → Follows (w ++ piece) (text ++ more)
 
--- the end came behind w, on which this text was said
+-- the end came after w, on which this text was said
 pub record CameToEnd (Closes : List ℕ → Bool → List ℕ → Type 0) (w text : List ℕ) (parsed : Bool)
     (before after : List ℕ) : Type 0 where
   pub more : List ℕ
   pub written : after ≡ before ++ more
   pub closes : Closes w parsed (text ++ more)
 
--- by what is said of texts, open (None: they can go on, Some: they stop at this byte) or at their
--- end (true: they have a parse)
+-- given what is said of texts, open (None: they can go on, Some: they stop at this byte) or at
+-- their end (true: they have a parse)
 module _ (Says : List ℕ → Option ℕ → List ℕ → Type 0) (Closes : List ℕ → Bool → List ℕ → Type 0)
     (Gives : ℕ → List ℕ → Bool → Answer → Type 0) where
   -- what is answered within a limit: the cases, that there is one answer, that it grows, and that a
-  -- stop stands
+  -- stop stays
   pub record Answering : Type 0 where
     pub stops_at : (n : ℕ) (w : List ℕ) (e : Bool) (at : ℕ) (text : List ℕ)
         → Says (take n w) (Some at) text → Gives n w e (stopped_answer text at at_byte)
@@ -59,7 +59,7 @@ module _ (Says : List ℕ → Option ℕ → List ℕ → Type 0) (Closes : List
     pub past : (n : ℕ) (w : List ℕ) (e : Bool) (a : Answer) → Gives n w e a → n < length w
         → IsSome a.stop
 
--- by what is viable, what is said, what has a parse and what is meant, as the model's answers
+-- given what is viable, what is said, what has a parse and what is meant, as the model's answers
 module _ (CanGoOn : List ℕ → Type 0) (Says : List ℕ → List ℕ → Type 0) (Parsed : List ℕ → Type 0)
     (Means : List ℕ → List ℕ → Type 0) where
   abbrev pub SaysViable : List ℕ → Option ℕ → List ℕ → Type 0

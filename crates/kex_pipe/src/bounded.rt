@@ -11,8 +11,8 @@ use crate::worker::{BeginsAnew, Worker};
 use kex_code::memory::Memory;
 use std::alloc::Global;
 
-/// A worker that takes at most so many bytes, as a stage: it stops where the worker does, or at the
-/// end where that finds no parse, or past the limit. What comes behind a stop is dropped.
+/// A worker that takes at most `limit` bytes, as a stage: it stops where the worker does, or at the
+/// end where that finds no parse, or past the limit. What comes after a stop is dropped.
 #[derive(Drop)]
 pub struct Bounded<W: Worker> {
     worker: W,
@@ -28,7 +28,7 @@ pub struct Bounded<W: Worker> {
 }
 
 impl<W: Worker> Bounded<W> {
-    /// A stage that has read nothing, and takes at most so many bytes.
+    /// A stage that has read nothing, and takes at most `max_input` bytes.
     pub fn new(alloc: Global, basis: W::Basis, max_input: u64) -> Result<Bounded<W>, Memory>
         ensures plan { IfOk result (λ s. ⟦<Bounded<W> as Turn>⟧.plan s
             ≡ record { machine = W.machine_in basis; limit = max_input }) }
@@ -186,8 +186,8 @@ fn fate_of(stop: Option<Stop>) -> Fate
     }
 }
 
-// Where a stage stops that was given so many bytes: at one that was refused, or where a piece goes
-// past the limit.
+// Where a stage stops after `count` bytes: at one that was refused, or where a piece goes past the
+// limit.
 fn stop_after(at: Option<u64>, count: u64, past: bool) -> Option<Stop>
     ensures { result ≡ stop_after at count past }
 {

@@ -7,7 +7,7 @@ use kex_code::memory::Memory;
 use std::alloc::Global;
 use std::mem::swap;
 
-/// Items that wait: bytes, and the end behind them where it has come.
+/// Items that wait: bytes, and the end after them where it has come.
 ///
 /// What was taken lies before `start` until it is more than what waits: no more bytes are moved
 /// than were taken.
@@ -76,8 +76,8 @@ impl Inbox {
         self.bytes.len() - self.start
     }
 
-    /// Moves all that waits there behind what waits here, where the end hasn't come or nothing
-    /// waits there. After an error nothing was moved.
+    /// Moves all that waits there to the end of what waits here, where the end hasn't come or
+    /// nothing waits there. After an error nothing was moved.
     pub fn append(&mut self, other: &mut Inbox) -> Result<(), Memory>
         ensures ok { OnOk result ((self.old.ended ≡ false) ⊎ (waiting_items other.old ≡ [])
             → waiting_items self.new ≡ waiting_items self.old ++ waiting_items other.old) }

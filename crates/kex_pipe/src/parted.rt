@@ -16,7 +16,7 @@ pub trait PartDesk {
     /// What it goes by, which no call changes.
     ghost kind: { Self → Kind };
 
-    /// Works on one of so many parts of a piece, which are counted from 1.
+    /// Works on one of the `of` parts of a piece, which are counted from 1.
     fn work(&mut self, part: u32, of: u32, piece: &[u8])
         requires { (1 ≤ part) × (part ≤ of) }
         ensures { kind self.new ≡ kind self.old };
@@ -44,7 +44,7 @@ pub trait Parted<D: PartDesk>: Turn {
         ensures usable { Self.is_usable self.new ≡ Self.is_usable self.old }
         ensures stands { (h : Option StageFed) → Self.stands self.old h → Self.stands self.new h };
 
-    /// A desk that goes by what one of its own goes by is one too.
+    /// A desk of the same kind as one of its own is one too.
     ghost stays_own: { (s : Self) (a b : D) → D.kind b ≡ D.kind a → owns s a → owns s b };
 }
 
@@ -73,6 +73,6 @@ pub trait PartedWorker<D: PartDesk>: Worker {
         ensures follows { (w text : List ℕ) → Self.follows self.old w text
             → Self.follows self.new w text };
 
-    /// A desk that goes by what one of its own goes by is one too.
+    /// A desk of the same kind as one of its own is one too.
     ghost stays_own: { (s : Self) (a b : D) → D.kind b ≡ D.kind a → owns s a → owns s b };
 }

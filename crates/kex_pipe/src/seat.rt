@@ -1,4 +1,4 @@
-// A stage in its seat, with what lies before and behind it.
+// A stage in its seat, with what lies before and after it.
 
 ghost use Rattle.std.specs.Prelude.{◌≡◌, ◌&&◌, ◌⊎◌, ℕ, Bool, true, false, IsTrue, OnOk, is_ok};
 ghost use Rattle.std.specs.Prelude.{drop, length};

@@ -63,10 +63,10 @@ fn work_parts<R: Threads + Sync, D: PartDesk + Send, G: Gate + Sync>(
     one && other
 }
 
-/// The desks work on parts of a piece at once: there are as many parts as desks, or fewer, of so
-/// many bytes at least. Part k, counted from 1, enters the gate as k before its work. It leaves it
-/// after, also where it finds nothing to do. A single part isn't worked on: its desk would do what
-/// the stage does then.
+/// The desks work on parts of a piece at once: there are as many parts as desks, or fewer, of
+/// `least` bytes at least. Part k, counted from 1, enters the gate as k before its work. It leaves
+/// it after, also where it finds nothing to do. A single part isn't worked on: its desk would do
+/// what the stage does then.
 pub fn work_desks<R: Threads + Sync, D: PartDesk + Send, G: Gate + Sync>(
     rt: &R,
     desks: &mut [D],
@@ -86,7 +86,7 @@ pub fn work_desks<R: Threads + Sync, D: PartDesk + Send, G: Gate + Sync>(
     let _done = work_parts(rt, gate, 1, parts as u32, piece, busy);
 }
 
-/// The desks of a stage work at once on parts of a piece that it reads next, of so many bytes at
+/// The desks of a stage work at once on parts of a piece that it reads next, of `least` bytes at
 /// least.
 pub fn work_ahead<R: Threads + Sync, D: PartDesk + Drop + Send, T: Parted<D>, G: Gate + Sync>(
     rt: &R,
@@ -105,7 +105,7 @@ pub fn work_ahead<R: Threads + Sync, D: PartDesk + Drop + Send, T: Parted<D>, G:
     stage.take_back(desks);
 }
 
-// The desks of stage `i` work at once on parts of what waits before it, of so many bytes at least.
+// The desks of stage `i` work at once on parts of what waits before it, of `least` bytes at least.
 fn share<R: Threads + Sync, D: PartDesk + Drop + Send, T: Parted<D> + Drop, G: Gate + Sync>(
     rt: &R,
     pipe: &mut Pipe<T>,
@@ -134,7 +134,7 @@ fn share<R: Threads + Sync, D: PartDesk + Drop + Send, T: Parted<D> + Drop, G: G
 }
 
 /// Stage `i`, counted from 1, takes a turn of all that waits before it. Its desks work on parts of
-/// that at once, of so many bytes at least, and it goes by what they have made where that is what
+/// that at once, of `least` bytes at least, and it goes by what they have made where that is what
 /// it makes itself. Where there are fewer than two parts it has no desks for this turn.
 pub fn turn_in_parts<
     R: Threads + Sync,

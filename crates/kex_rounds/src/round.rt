@@ -37,7 +37,7 @@ fn work_one<T: Turn, G: Gate>(gate: &G, stage: u32, seat: &mut Seat<T>) -> Resul
 /// some thousand bytes, and longer on a busy machine.
 const LITTLE: usize = 32_767;
 
-// Whether each of these stages had a turn, and no more than so many bytes wait before all of them.
+// Whether each of these stages had a turn, and no more than `most` bytes in all wait before them.
 fn have_few<T: Turn>(seats: &[Seat<T>], most: usize) -> bool
     ensures { IsTrue result ↔ HaveFew T.Turn most seats.now }
 {
@@ -109,7 +109,7 @@ pub fn round<R: Threads + Sync, T: Turn + Drop + Send, G: Gate + Sync>(
         → Stands T.Turn ps pipe.old h taken
         → IsPermutation (range_with_len 0 (stage_count T.Turn pipe.old)) order
         → Stands T.Turn ps pipe.new (h ++ map (turn_of T.Turn pipe.old.seats.items) order) taken) }
-    // The first stages that had worked off all that came stay so, and the one behind them joins
+    // The first stages that had worked off all that came stay so, and the one after them joins
     // them.
     ensures settles { OnOk result ((ps : List T.Plan) (h : List Event) (taken : List ℕ)
         (order : List ℕ) (k : ℕ) (s : Stands T.Turn ps pipe.old h taken)

@@ -34,7 +34,7 @@ same_rest : {A : Type 0} (a x y : List A) → a ++ x ≡ a ++ y → x ≡ y
 same_rest [] x y e = e
 same_rest (z ∷ a) x y e = same_rest a x y (ap (λ s. drop 1 s) e)
 
--- behind a code's text and what is begun of a symbol there is no whole symbol
+-- after a code's text and what is begun of a symbol there is no whole symbol
 no_next : (g : Graph) (u : List ℕ) (c : List Symbol) (begun : List ℕ) → u ≡ text_of c ++ begun → IsBegun begun → HasNext u c → ⊥
 no_next g u c begun split (y, next, more, code_y, text_y) (x, code, (m, e)) =
     let rest : begun ≡ text_of (x ∷ []) ++ m =
@@ -54,7 +54,7 @@ no_next g u c begun split (y, next, more, code_y, text_y) (x, code, (m, e)) =
 less : (m n : ℕ) → (n < m → ⊥) → m ≤ n
 less m n h = omega arith
 
--- the longest code is the one behind which there is no whole symbol
+-- the longest code is the one after which there is no whole symbol
 longest_by : (g : Graph) (u : List ℕ) (c : List Symbol) → IsCode c → Begins u (text_of c) → BeginsRun g c → (HasNext u c → ⊥) → LongestCode (BeginsRun g) (IsWholeCode g) (WritesRun g) u c
 longest_by g u c code p begins none = record {
   code = code;
@@ -141,7 +141,7 @@ module _ (g : Graph) (r r1 : CodeReading) (a a1 : Position) (size : ℕ) (w said
             let all : take (suc (length s)) symbols ≡ symbols = take_all (suc (length s)) symbols (omega (arith, ap (λ (z : List Symbol). length z) e)) in
             subst (λ g. BeginsRun g (o.code ++ symbols)) m (subst (λ z. BeginsRun a.machine (o.code ++ z)) all some)
 
-    -- the answer's text, its place and what stands then
+    -- the answer's code, its text, and what holds where it goes on
     pub record Took (refused bad at : Option ℕ) : Type 0 where
       pub code : List Symbol
       pub text : List ℕ

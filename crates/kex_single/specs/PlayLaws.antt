@@ -72,7 +72,7 @@ code_behind c d h k (s, e) =
     is_code_append (R ∷ c) d h k = is_code_append c d h k
     is_code_append (Byte b ∷ c) d h k = (h.0, is_code_append c d h.1 k)
 
--- of two codes whose texts stand at the front of one text the longer begins with the shorter
+-- of two codes whose texts are at the front of one text the longer begins with the shorter
 pub longer_code : (u : List ℕ) (c d : List Symbol) → IsCode c → IsCode d → Begins u (text_of c)
     → Begins u (text_of d) → length c ≤ length d → Begins d c
 longer_code u c d h k p q le =

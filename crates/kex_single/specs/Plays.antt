@@ -24,7 +24,7 @@ pub record IsBadByte (u : List ℕ) (k : ℕ) : Type 0 where
 -- for one
 module _ (BeginsTreeCode : List Symbol → Type 0) (IsTreeCode : List Symbol → Type 0)
     (Writes : List Symbol → List ℕ → Type 0) where
-  -- of the codes whose text stands at the front of u, and that begin a tree's code, the longest
+  -- of the codes whose text is at the front of u, and that begin a tree's code, the longest
   pub record LongestCode (u : List ℕ) (c : List Symbol) : Type 0 where
     pub code : IsCode c
     pub front : Begins u (text_of c)

@@ -23,7 +23,7 @@ abbrev pub given_of : List ℕ → List ℕ → Option ℕ → List ℕ
 given_of w piece None = w ++ piece
 given_of w piece (Some k) = w ++ take (k + 1) piece
 
--- the number in all bytes of a byte of the piece behind so many
+-- the number in all bytes of a byte of the piece, which comes after `before` bytes
 abbrev pub place_of : Option ℕ → ℕ → Option ℕ
 place_of None before = None
 place_of (Some k) before = Some (before + k)

@@ -73,7 +73,7 @@ fn is_parsed(ended: Ended) -> bool
     }
 }
 
-// The number of a byte in all bytes, of that in the piece behind so many.
+// The number in all bytes of a byte of the piece, which comes after `before` bytes.
 fn place_of(bad: Option<usize>, before: u64, length: usize) -> Option<u64>
     requires fits { before + length < 2 ^ 64 }
     requires within { IfSome bad (λ k. k < length) }
@@ -150,7 +150,7 @@ pub struct Coder<'m> {
 }
 
 impl<'m> Coder<'m> {
-    /// A coder that has read nothing, and takes at most so many bytes.
+    /// A coder that has read nothing, and takes at most `max_input` bytes.
     pub fn new(alloc: Global, machine: &'m Trimmed, max_input: u64) -> Result<Coder<'m>, Memory>
         ensures plan { IfOk result (λ s. ⟦<Coder<'m> as Turn>⟧.plan s
             ≡ record { machine = machine.now; limit = max_input }) }

@@ -32,7 +32,7 @@ fn size_of(symbol: Symbol) -> u64
     }
 }
 
-// How many bytes the text of some symbols has, on from a count that stands still at its last value.
+// How many bytes the text of some symbols has, on from a count that stays at its last value.
 fn size_on(count: u64, symbols: &[Symbol]) -> u64
     ensures { result ≡ min (count + length (text_of symbols.now)) (2 ^ 64 - 1) }
 {
@@ -176,7 +176,7 @@ pub struct Player<'m> {
 }
 
 impl<'m> Player<'m> {
-    /// A player that has read nothing, and takes at most so many bytes of text.
+    /// A player that has read nothing, and takes at most `max_input` bytes of text.
     pub fn new(alloc: Global, machine: &'m Trimmed, max_input: u64) -> Result<Player<'m>, Memory>
         ensures plan { IfOk result (λ s. ⟦<Player<'m> as Turn>⟧.plan s
             ≡ record { machine = machine.now; limit = max_input }) }

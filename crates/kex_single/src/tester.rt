@@ -83,7 +83,7 @@ pub struct Tester<'m> {
 }
 
 impl<'m> Tester<'m> {
-    /// A tester that has read nothing, and takes at most so many bytes.
+    /// A tester that has read nothing, and takes at most `max_input` bytes.
     pub fn new(alloc: Global, machine: &'m Trimmed, max_input: u64) -> Result<Tester<'m>, Memory>
         ensures plan { IfOk result (λ s. ⟦<Tester<'m> as Turn>⟧.plan s
             ≡ record { machine = machine.now; limit = max_input }) }

@@ -49,7 +49,7 @@ module _ (g : Graph) (t : Transducer) (d : IsDetermined g t) where
         passed = row_passed g t d i x.0 row e x.2;
       }
 
--- behind the line of the first state comes that of the update
+-- after the line of the first state comes that of the update
 pub init_first : (u : Change) (i : ℕ) (line : List ℕ) → i ≡ 0 → line ++ init_line u ≡ line ++ init_behind u i
 init_first u i line e = ap (λ z. line ++ init_behind u z) (sym e)
 
@@ -57,7 +57,7 @@ pub init_later : (u : Change) (i : ℕ) (line : List ℕ) → (i ≡ 0 → ⊥) 
 init_later u zero line other = absurd (other refl)
 init_later u (suc i) line other = sym (append-nil line)
 
--- all is written behind the last state
+-- all is written after the last state
 pub states_end : (numbers : List ℕ) (u : Change) (shapes : List (Shape ℕ)) (rows : List Row) (i : ℕ) (line : List ℕ) → length rows ≤ i → length rows ≡ length shapes → line ++ states_text numbers u i (drop i shapes) (drop i rows) ≡ line
 states_end numbers u shapes rows i line le same =
     ap (λ z. line ++ states_text numbers u i z (drop i rows)) (drop_all i shapes (omega (arith, le, same))) ∙ append-nil line

@@ -7,7 +7,7 @@ use Rattle.kex_tabfile.specs.Readers.{most_bytes}
 use Rattle.kex_tabfile.proofs.ReaderSteps.{drop_front}
 use Rattle.kex_tabfile.proofs.StateLines.{FindsNumber, feed}
 
--- behind the name a text's other lines come
+-- after the name a text's other lines come
 pub head_rest : (file rest text : List ℕ) → file ≡ name_line ++ rest → Begins file (head_text text) → Begins rest (size_line (length text) ++ (text ++ codes "\n"))
 head_rest file rest text e (more, f) =
     let tail = size_line (length text) ++ (text ++ codes "\n") in

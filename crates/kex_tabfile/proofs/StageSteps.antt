@@ -76,7 +76,7 @@ module _ (g : Graph) (numbers classes : List ℕ) (states : ℕ) where
   abbrev pub StateChecks : List (ℕ × Outline) → List (ℕ × Outline) → ℕ → Row → ReadSoFar → ReadSoFar → Type 0
   StateChecks entries later state row a b = (told : Told) → ChecksAt g entries states state told → (s : Shape ℕ) × (after : List Target) × IsAmong told.targets (target state s) × HasEnds g s row.registers row.accepting × ChecksAt g later states (suc state) (record told { targets = after; rows = told.rows ++ row.go ∷ [] }) × Checks g numbers classes a (at_state told) (at_state (record told { targets = after; rows = told.rows ++ row.go ∷ [] })) b
 
-  -- the lines of so many classes are right
+  -- the lines of the classes in `go` are right
   abbrev pub GoesSoFar : ℕ → ReadSoFar → Told → Shape ℕ → List (ℕ × Outline) → Go → ReadSoFar → Type 0
   GoesSoFar state a told s entries go b = (after : List Target) × ChecksAt g entries states state (record told { targets = after }) × Checks g numbers classes a (at_class told s []) (at_class (record told { targets = after }) s go) b
 

@@ -18,7 +18,7 @@ use Rattle.kex_tabfile.proofs.LineSteps.{checks_line}
 use Rattle.kex_tabfile.proofs.StuckLines.{breaks_go, breaks_state}
 use Rattle.kex_tabfile.proofs.TableRows.{target}
 
--- what the reader says of the number behind so many bytes
+-- what the reader says of the number after `skip` bytes
 abbrev pub FindsNumber : List ℕ → ℕ → ℕ → Option ℕ → Type 0
 FindsNumber rest skip most found = (front : List ℕ) (n next : ℕ) (more : List ℕ) → length front ≡ skip → n ≤ most → rest ≡ front ++ (decimal n ++ next ∷ more) → (IsDigit next → ⊥) → found ≡ Some n
 

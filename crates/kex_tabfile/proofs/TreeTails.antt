@@ -80,7 +80,7 @@ module _ (numbers : List ℕ) where
 
 -- ---- nodes
 
--- a node that is a leaf: its place, and what comes behind it
+-- a node that is a leaf: its place, and what comes after it
 pub record IsTip (count : ℕ) (shape : List Bool) (leaves : List ℕ) (here : Shape ℕ) (inner : List Bool) (places : List ℕ) (i leaf : ℕ) : Type 0 where
   pub spot : ℕ
   pub is : here ≡ place spot
@@ -126,7 +126,7 @@ module _ (numbers : List ℕ) (count : ℕ) (shape : List Bool) (leaves whole : 
   pub tip_of : (i leaf : ℕ) (marks : List TreeMark) (line : List ℕ) → i < length shape → get_or shape i false ≡ false → (o : In i leaf marks line) → IsTip count shape leaves o.here (inner_in_tail o.tail) (places_in_tail o.tail) i leaf
   tip_of i leaf marks line lt e o = tip_there count shape leaves o.here (inner_in_tail o.tail) (places_in_tail o.tail) i leaf lt e o.inner o.places o.below
 
-  -- a leaf is written, and what comes behind it
+  -- a leaf is written, and what comes after it
   pub past_tip : (i leaf : ℕ) (marks : List TreeMark) (line : List ℕ) (o : In i leaf marks line) → IsTip count shape leaves o.here (inner_in_tail o.tail) (places_in_tail o.tail) i leaf → (longer now : List ℕ) (left : List TreeMark) → longer ≡ line ++ decimal (get_or numbers (get_or leaves leaf 0) 0) → TailGoesOn numbers o.tail longer left now → Writes (i + 1) (leaf + 1) left now
   past_tip i leaf marks line o t longer now left e goes = ⊎_elim
       (λ h. inr (t.inner_left ∙ h.1.inner, text ∙ h.1.text ∙ append-nil now))

@@ -56,7 +56,7 @@ length-goes (x ∷ rows) = let h = length-goes rows in omega (arith, h)
 one_longer : {A : Type 0} (xs : List A) (x : A) → length (xs ++ x ∷ []) ≡ suc (length xs)
 one_longer xs x = omega (arith, length-append xs (x ∷ []))
 
--- what stands behind a front
+-- what comes after a front
 next_at : {A : Type 0} (all done left : List A) (x : A) → all ≡ done ++ x ∷ left → (slice_get all (length done) ≡ Some x) × (length done < length all) × (all ≡ (done ++ x ∷ []) ++ left)
 next_at all done left x e =
     let split = e ∙ sym (append_assoc done (x ∷ []) left) in

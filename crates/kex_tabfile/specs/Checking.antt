@@ -54,7 +54,7 @@ BreaksReading g numbers classes old from (BadTable line) = (before rest : List �
 BreaksReading g numbers classes old from Memory = Unit {0}
 BreaksReading g numbers classes old from _ = ⊥
 
--- what is told at a state's line, and the trees that are kept
+-- what the lines before a state's tell, and the trees that are kept
 pub record ChecksAt (g : Graph) (entries : List (ℕ × Outline)) (states state : ℕ)
     (told : Told) : Type 0 where
   pub known : AreTargets g entries told.targets

@@ -13,7 +13,7 @@ nexts_of (choose l r) = l ∷ r ∷ []
 nexts_of (forced x t) = t ∷ []
 nexts_of (go e t) = t ∷ []
 
--- a place that is met stands in the order, or is put at its end
+-- a place that is met is in the order, or is put at its end
 abbrev pub MeetsPlace : List ℕ → ℕ → List ℕ → Type 0
 MeetsPlace order p after = (IsAmong order p × (after ≡ order))
     ⊎ ((IsAmong order p → ⊥) × (after ≡ order ++ p ∷ []))

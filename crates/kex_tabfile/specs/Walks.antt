@@ -36,9 +36,9 @@ told_first n s = record {
   rows = [];
 }
 
--- where a line of a stage stands: the stage's own, with this number; that of the next state, or
--- what comes after the last; that of the start's update; or one of the next state, which has this
--- tree, after some of its classes
+-- where a line of a stage comes: the stage's own, with this number; that of the next state, or what
+-- comes after the last; that of the start's update; or one of the next state, which has this tree,
+-- after some of its classes
 pub data Spot : Type 0 where
   at_stage : ℕ → Spot
   at_state : Told → Spot

@@ -143,7 +143,7 @@ impl<'b> TableReader<'b> {
     }
 
     /// The number that comes `skip` bytes on, if it is at most `most`. Where there are no digits,
-    /// it stands for nothing.
+    /// what it gives means nothing.
     pub(crate) fn number(&self, skip: usize, most: u32) -> Option<u32>
         ensures short { length self.now.rest ≤ most_bytes }
         ensures within { IfSome result (λ n. n ≤ most) }

@@ -15,8 +15,8 @@ pub enum TableRefusal {
     /// The file has more than `MOST_BYTES` bytes.
     #[error("the table file is too long")]
     TableTooLong,
-    /// This line is the first that isn't right, or is missing where another stands. Lines count by
-    /// line feeds, from 1.
+    /// This line is the first that isn't right, or is missing where another is. Lines count by line
+    /// feeds, from 1.
     #[error("line {line} of the table file isn't right")]
     BadTable { line: u32 },
     /// The program text in the file is refused, but not for want of memory; offsets count its

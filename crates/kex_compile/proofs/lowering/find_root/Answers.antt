@@ -8,7 +8,7 @@ use Rattle.kex_code.specs.Codes.{HasNumber, IsAmong}
 use Rattle.kex_cover.proofs.LeftLeaves.{apart_by, equal_by}
 use Rattle.kex_compile.proofs.lowering.find_root.Goals as goal
 
--- what stands at a place of the list
+-- the place of the root in the list, counted from i, if it is there
 abbrev Finds : List ℕ → ℕ → ℕ → Option ℕ → Type 0
 Finds xs root i o = MatchOption o (IsAmong xs root → ⊥) (λ k. (j : ℕ) × (k ≡ i + j) × HasNumber xs root j)
 

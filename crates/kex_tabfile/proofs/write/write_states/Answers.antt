@@ -69,7 +69,7 @@ meet_all-requires-clause-classes c =
     let x = c.states-states.ensures.table.states i row at in
     omega (arith, ap length c.go-go.ensures, x.long, c.classes-classes.ensures.count, ap class_count c.partition.ensures.same, c.classes-classes.ensures.within.1)
 
--- behind the first state's line stands that of the update
+-- after the first state's line comes that of the update
 init_part : (c : goal.In_ok-meet_all) → c.if-state-eq0.out.items ≡ c.push_state_line.new.line.items ++ init_behind c.args.table.now.initial c.loop-state.state
 init_part c =
     let u = c.args.table.now.initial in
