@@ -15,8 +15,8 @@ use std::time::Clock;
 
 const BLOCK: usize = 4096;
 
-/// Files as a shelf, by their paths. No text is told, and each fault counts as one at a name that
-/// has a text.
+/// Files as a shelf, by their paths. Its contract doesn't say which texts there are, and each fault
+/// counts as one at a name that has a text.
 #[derive(Drop)]
 pub struct FileShelf<R: Files + Clock + Drop> {
     files: R,

@@ -57,7 +57,7 @@ fn is_answer(answer: &str, wanted: &str) -> bool {
     }
 }
 
-/// Whether a call comes to what is wanted. The program stands on the shelf as `p`.
+/// Whether a call comes to what is wanted. The program is on the shelf as `p`.
 pub(crate) fn holds<R: Threads + Sync>(
     rt: &R,
     alloc: Global,
@@ -152,7 +152,7 @@ pub(crate) struct CallRows<'a> {
     pub text: &'a str,
     /// What stands for a line feed.
     pub feed: char,
-    /// Whether the program is compiled, and its table file stands on the shelf in its place.
+    /// Whether the program is compiled, and its table file is on the shelf in its place.
     pub compiled: bool,
 }
 

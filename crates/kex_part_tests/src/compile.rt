@@ -183,7 +183,7 @@ fn stages_share_machines(rt: HostRuntime) -> Result<(), Fail> {
     Ok(())
 }
 
-// Definitions, each of which calls the next one before what stands at its end, and the last one the
+// Definitions, each of which calls the next one before what is at its end, and the last one the
 // first.
 fn cycle(alloc: Global, count: u32, end: &str) -> Result<String, AllocError> {
     let mut text = String::from_str(alloc, "start: a0")?;

@@ -1,4 +1,4 @@
-//! Which leaf of a start state is covered by those before it, and by how many pairs that is told.
+//! Which leaf of a start state is covered by those before it, and how many pairs decide that.
 use crate::made::ANY;
 use crate::waiting::all_wait;
 use kex_compile::compile;

@@ -1,6 +1,6 @@
 //! Tests of the crates below the program, through their public calls.
 //!
-//! They stand in a crate of their own, which has little else but two stages for them: a crate with
+//! They are in a crate of their own, which has little else but two stages for them: a crate with
 //! tests is proved twice. Only what no clause says is tested: that calls answer with ample memory,
 //! what a worked example comes to, and what is found, learnt and met.
 //!

@@ -2,9 +2,9 @@
 use kex_reader::read;
 use std::test::Fail;
 
-// Texts of all forms, and then regular expressions: bodies of all forms; where the first byte
-// stands that continues no body, or the end where a body has to go on; and the rule of the least
-// number, and of its breaks the first.
+// Texts of all forms, and then regular expressions: bodies of all forms; the first byte that
+// continues no body, or the end where a body has to go on; and the rule of the least number, and of
+// its breaks the first.
 const TEXTS: &str = r#"
 main := 1 => read
 start: a >> b a := (~x@"k" "yy")* b := ([r <- "a" x] | !r [r += r]){2,3} a // end => read

@@ -4,8 +4,8 @@ use kex_tokens::tokens;
 use std::alloc::Global;
 use std::test::Fail;
 
-// The kinds of a text's tokens, and where each begins and ends; or where the first thing stands
-// that is no token.
+// The kinds of a text's tokens, and where each begins and ends; or the place of the first thing
+// that is none.
 fn answer(alloc: Global, text: &[u8]) -> Result<String, Fail> {
     let mut answer = String::new(alloc);
     match tokens(alloc, text) {
