@@ -14,8 +14,8 @@ pub record CodeReading : Type 0 where
   pub bad : Bool
   pub usable : Bool
 
--- the reader was fed w, and has given c: the whole symbols of the good bytes; the byte after those
--- is the first with which no code's text begins
+-- the reader was fed w, and has given c: the whole symbols of the good bytes; after those comes the
+-- bad byte, if there was one: with it no code's text begins
 pub record ReaderHasRead (r : CodeReading) (w : List ℕ) (c : List Symbol) : Type 0 where
   pub spells : SpellsCode (take r.good w) c r.begun
   pub all : r.bad ≡ false → r.good ≡ length w

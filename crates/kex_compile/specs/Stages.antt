@@ -182,7 +182,7 @@ abbrev pub IsStageRefused : Grammar → StageRefusal → ℕ → Type 0
 IsStageRefused P e root = IsWhy P root most_places e
 
 -- no stage is refused by a rule that comes before, and this stage is the first that is by this one,
--- or there is one too many
+-- or there is more than one
 abbrev pub IsUnplanned : Limits → Grammar → PlanRefusal → Type 0
 IsUnplanned limits P (TooManyPlaces n) = IsFirst (IsStageRefused P why.TooManyPlaces) (roots_of P) n
 IsUnplanned limits P (NoText n) = NoneIs (IsStageRefused P why.TooManyPlaces) (roots_of P)

@@ -49,7 +49,7 @@ pub record AreRows (g : Graph) (t : Transducer) (shapes : List (Shape ℕ)) : Ty
   pub rows : (i : ℕ) (s : Shape ℕ) → slice_get shapes i ≡ Some s → (r : Row)
       × (slice_get t.states i ≡ Some r) × IsRowOf g t.classes shapes s r
 
--- a shape that is come to from the first by bytes
+-- a shape that is reached from the first by bytes
 pub data IsFound (g : Graph) : Shape ℕ → Type 0 where
   at_first : (a : Grown Part ℕ) → IsFirstTree g (Some a) → IsFound g (shape_of a.tree)
   by_byte : {s : Shape ℕ} (b : ℕ) (a : Grown Part ℕ) → IsFound g s → IsNext g b s (Some a)

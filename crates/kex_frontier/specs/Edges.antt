@@ -107,7 +107,7 @@ TipsBelow m (fork x l y r) = TipsBelow m l × TipsBelow m r
 abbrev pub IsTreeBelow : ℕ → List Edge → Type 0
 IsTreeBelow m ks = (t : Labelled Symbol ℕ) × (ks ≡ edges_of t []) × TipsBelow m t
 
--- marks for as many places, and no edges or those of a tree of such places
+-- marks for m places, and no edges or those of a tree of such places
 pub record IsKeptTree (m : ℕ) (ks : List Edge) (marks : List Bool) : Type 0 where
   pub long : length marks ≡ m
   pub tree : (ks ≡ []) ⊎ IsTreeBelow m ks

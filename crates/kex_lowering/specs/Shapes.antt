@@ -48,7 +48,7 @@ abbrev pub IsPlaceOf : {P : Grammar} {root : ℕ} {m : Graph} → IsMachineOf P 
     → Type 0
 IsPlaceOf is p n = HasNumber is.places p n
 
--- the place is the one that the node stood for before the machine was trimmed
+-- the place is the one of the number that the node had before the machine was trimmed
 abbrev pub WasPlaceOf : {P : Grammar} {root : ℕ} {m t : Graph} → IsMachineOf P root m → IsTrimOf m t
     → Place → ℕ → Type 0
 WasPlaceOf is trimmed p n = (before : ℕ) × HasNumber is.places p before

@@ -91,14 +91,14 @@ module _ (g : Graph) where
 
   -- ---- the laws
 
-  -- where w and x have a parse, its greedy code begins with that of the first survivor of w from
-  -- which x leads to the end
+  -- where w and then x has a parse, its greedy code begins with that of the first survivor of w
+  -- from which x leads to the end
   abbrev pub FirstLeads : List ℕ → List ℕ → Type 0
   FirstLeads w x = (d : List Symbol) → IsGreedy g (w ++ x) d → (p : ℕ) × (c : List Symbol)
       × IsFirstBy w x p c × Begins d c × (cut_behind (length w) d ≡ c)
 
-  -- what is best is what the survivors agree on that aren't covered, of which there is one; none of
-  -- them is covered
+  -- what is best is what the survivors agree on that aren't covered, of which there is one where w
+  -- is viable; none of them is covered
   pub record BestByUncovered (w : List ℕ) : Type 0 where
     pub some : IsViableFor g w → (p : ℕ) × (c : List Symbol) × IsUncovered w p c
     pub apart : (p : ℕ) (c : List Symbol) → IsCovered w p c → IsUncovered w p c → ⊥

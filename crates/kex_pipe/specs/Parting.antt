@@ -15,7 +15,7 @@ module _ {T : Type 0} (t : Ghosts T) where
     pub outbox : new.outbox ≡ old.outbox
     pub usable : new.usable ≡ old.usable
 
-  -- the desks are the own ones of the stage with this number, counted from 1
+  -- the desks are those of the stage with this number, counted from 1
   abbrev pub AreDesksOf : {D : Type 0} → (T → D → Type 0) → ℕ → Pipe T t → List D → Type 0
   AreDesksOf Owns i pipe desks = (s : Seated T t)
       → All (λ d. Owns (slice_index_or pipe.seats.items (i - 1) s).staged.stage d) desks

@@ -77,7 +77,7 @@ impl Inbox {
     }
 
     /// Moves all that waits there to the end of what waits here, where the end hasn't come or
-    /// nothing waits there. After an error nothing was moved.
+    /// nothing waits there. After an error the bytes here are as they were.
     pub fn append(&mut self, other: &mut Inbox) -> Result<(), Memory>
         ensures ok { OnOk result ((self.old.ended ≡ false) ⊎ (waiting_items other.old ≡ [])
             → waiting_items self.new ≡ waiting_items self.old ++ waiting_items other.old) }
