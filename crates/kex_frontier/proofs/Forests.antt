@@ -49,7 +49,7 @@ module _ (h : List Symbol → List Symbol) where
       same : {xs ys : List Edge} {c d : List Symbol} {a b : Option ℕ} → xs ≡ ys → c ≡ d → a ≡ b → xs ++ record { label = c; at = a } ∷ [] ≡ ys ++ record { label = d; at = b } ∷ []
       same e f g = cc
 
-  -- a tree that is there has a edge
+  -- a tree that is there has an edge
   pub some_edge : (rs : List (Option (Grown Symbol ℕ))) → is_there (last_code_tree rs) ≡ true → edges_in h rs ≡ [] → ⊥
   some_edge [] is e = cc
   some_edge (None ∷ rs) is e = cc

@@ -5,7 +5,7 @@ use Rattle.kex_code.specs.declared.symbol.Symbol.{Symbol}
 use Rattle.kex_model.specs.Labelled.{Labelled, tip, fork, Grown, with_prefix, fork_of}
 use Rattle.kex_machine.specs.Advancing.{left_or_right}
 
--- the label of the edge to it, and its place if it is a tip
+-- an edge: its label, and the place that it leads to, if that is a tip
 pub record Edge : Type 0 where
   pub label : List Symbol
   pub at : Option ℕ

@@ -17,7 +17,7 @@ use std::alloc::Global;
 use std::marker::Model;
 use std::mem;
 
-/// A edge of a tree: the label of the edge to it, and its place if it is a tip.
+/// An edge of a tree: its label, and the place that it leads to, if that is a tip.
 #[derive(Drop)]
 pub struct TreeEdge {
     pub label: Vec<Symbol>,
@@ -289,7 +289,7 @@ impl CodeForest {
     }
 }
 
-// Knots go to the end of others, with their labels turned.
+// Edges go to the end of others, with their labels turned.
 fn move_turned(from: &mut Vec<TreeEdge>, to: &mut Vec<TreeEdge>) -> Result<(), Memory>
     ensures { OnOk result (edges_at to.new.items
         ≡ edges_at to.old.items ++ map with_label_turned (edges_at from.old.items)) }

@@ -92,7 +92,7 @@ pub fn advance(
     Ok(())
 }
 
-// A edge at the end: of tips those that accept stay, and of two sides the first that is there.
+// An edge at the end: of tips those that accept stay, and of two sides the first that is there.
 fn end_edge(
     nodes: &[MNode],
     at: Option<u32>,

@@ -45,7 +45,7 @@ pub data Move (S : Type 0) : Type 0 where
   -- go on, with an effect
   go : Effect → S → Move S
 
--- another turn or the end, by which is preferred
+-- another turn or the end, to the left the one that is preferred
 abbrev pub turn_or_end : {S : Type 0} → Bool → S → S → Move S
 turn_or_end false turn end = choose turn end
 turn_or_end true turn end = choose end turn
