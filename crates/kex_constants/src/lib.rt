@@ -1,8 +1,8 @@
 //! Registers that always hold the same choices, taken out of a table.
 //!
-//! Builds on tables and the sides of choices. Constants are guessed, then checked, and only then
-//! put in place of their registers; the clauses of `clear_table` are the contract: the new table
-//! passes on the same, so it is of the same machine.
+//! Uses tables and the sides of choices. Constants are guessed, then checked, and only then put in
+//! place of their registers; the clauses of `clear_table` are the contract: the new table passes on
+//! the same, so it is of the same machine.
 #![tactic(auto)]
 
 mod check;

@@ -1,11 +1,11 @@
 //! Which survivors of a text matter for what may come: a place is covered by others where every
 //! text that leads from it to the end leads there from one of those.
 //!
-//! Builds on machines, on rows of bits and on determinisation. The search goes over pairs of sets
-//! of waiting places: what a text leads to from the place, and what it leads to from the others.
-//! The sets have numbers, and where one leads by a class of bytes is worked out once. A table whose
-//! states leave covered leaves out passes on what is best. The contracts of `covered` and of
-//! `optimal` are the crate's.
+//! Uses machines, rows of bits and determinisation. The search goes over pairs of sets of waiting
+//! places: what a text leads to from the place, and what it leads to from the others. The sets have
+//! numbers, and where one leads by a class of bytes is worked out once. A table whose states leave
+//! covered leaves out passes on what is best. The contracts of `covered` and of `optimal` are the
+//! crate's.
 #![tactic(auto)]
 
 pub mod fault;

@@ -1,8 +1,8 @@
 //! From a program to a machine: each place of a stage gets a number, and is a node of the machine.
 //!
-//! Builds on the model's places and on machines. The contract of `desugar` is the crate's: the
-//! nodes are the stage's places, one to one, and it refuses exactly where the stage has more places
-//! than are allowed.
+//! Uses the model's places and machines. The contract of `desugar` is the crate's: the nodes are
+//! the stage's places, one to one, and it refuses exactly where the stage has more places than are
+//! allowed.
 #![tactic(auto)]
 
 ghost use Rattle.std.specs.Prelude.{◌≡◌, IfOk, OnOk, IfErr};

@@ -1,8 +1,8 @@
 //! Determinisation: from a machine to the table whose states are the shapes of its texts' path
 //! trees, after the Kleenex paper (POPL 2016).
 //!
-//! Builds on path trees, which show how a shape goes on with a class of bytes, and on tables. The
-//! contract of `determine` is the crate's.
+//! Uses path trees, which show how a shape goes on with a class of bytes, and tables. The contract
+//! of `determine` is the crate's.
 #![tactic(auto)]
 
 pub mod ends;

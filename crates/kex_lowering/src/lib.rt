@@ -1,8 +1,8 @@
 //! From a stage of a program to its trimmed machine, which answers as the stage does.
 //!
-//! Builds on the passes from places to nodes and from nodes to those that lead to the end. The
-//! contract of `stage_machine` is the crate's: its refusals are said of the stage's places, and so
-//! is what its machine answers.
+//! Uses the passes from places to nodes and from nodes to those that lead to the end. The contract
+//! of `stage_machine` is the crate's: its refusals are said of the stage's places, and so is what
+//! its machine answers.
 #![tactic(auto)]
 
 ghost use Rattle.std.specs.Prelude.{◌≡◌, IfOk, OnOk, IfErr};

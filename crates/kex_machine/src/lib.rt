@@ -1,6 +1,6 @@
 //! Machines: a stage's places as numbered nodes.
 //!
-//! Builds on byte sets, codes and the model's moves. A `Machine` keeps that all its numbers are in
+//! Uses byte sets, codes and the model's moves. A `Machine` keeps that all its numbers are in
 //! range; a `Trimmed` keeps that the end is reached from every node and that every loop without a
 //! byte makes a choice.
 #![tactic(auto)]

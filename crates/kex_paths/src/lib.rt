@@ -1,9 +1,9 @@
 //! Path trees: how the tree of a text's survivors goes on with a byte, from its shape and the
 //! byte's class alone.
 //!
-//! Builds on machines and on the updates of tables. Old registers have the labels of a tree's
-//! edges, in preorder; the clauses of `PathTree::start` and `PathTree::advance` say what `IsNext`
-//! determines and that it is the tree of the text.
+//! Uses machines and the updates of tables. Old registers have the labels of a tree's edges, in
+//! preorder; the clauses of `PathTree::start` and `PathTree::advance` say what `IsNext` determines
+//! and that it is the tree of the text.
 #![tactic(auto)]
 
 mod advance;

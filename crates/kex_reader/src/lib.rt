@@ -1,6 +1,6 @@
 //! Program texts into programs: definitions, terms, registers, bodies and the start line.
 //!
-//! Builds on tokens, bodies and the model. The promise is that of `read`: what a text spells is in
+//! Uses tokens, bodies and the model. The promise is that of `read`: what a text spells is in
 //! `specs/Spelling`, over the trees of `specs/Syntax`, the nodes that show them (`Shown`) and the
 //! limits (`Checks`).
 #![tactic(auto)]

@@ -1,6 +1,6 @@
 //! Lists of symbols that are joined by moving blocks, and never symbol by symbol.
 //!
-//! Builds on codes. A `Rope` is seen as the list of its symbols, and each call is the list's.
+//! Uses codes. A `Rope` is seen as the list of its symbols, and each call is the list's.
 #![tactic(auto)]
 
 pub mod rope;

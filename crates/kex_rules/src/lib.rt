@@ -1,7 +1,7 @@
 //! The rules on a program's names, its stages and its calls (K07 to K10).
 //!
-//! Builds on the model's programs. The contract of `check` is the crate's: it refuses exactly where
-//! a rule is broken, by the first rule and its lowest offset, and what it gives keeps them all.
+//! Uses the model's programs. The contract of `check` is the crate's: it refuses exactly where a
+//! rule is broken, by the first rule and its lowest offset, and what it gives keeps them all.
 #![tactic(auto)]
 
 ghost use Rattle.std.specs.Prelude.{◌≡◌, IfOk, IfErr};

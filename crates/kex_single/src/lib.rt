@@ -1,7 +1,7 @@
 //! One stage by itself, as a bounded worker: the code of its input, what a code means, and whether
 //! the input has a parse.
 //!
-//! Builds on the oracle, the actor and `kex_pipe`. Each worker's `gives` is its contract: what is
+//! Uses the oracle, the actor and `kex_pipe`. Each worker's `gives` is its contract: what is
 //! written and where it stops.
 #![tactic(auto)]
 

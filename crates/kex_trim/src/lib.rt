@@ -1,7 +1,7 @@
 //! A machine without dead ends.
 //!
-//! Builds on machines. `trim` refuses exactly where there is no text; else it keeps exactly the
-//! nodes that lead to the end, with the same codes and effects.
+//! Uses machines. `trim` refuses exactly where there is no text; else it keeps exactly the nodes
+//! that lead to the end, with the same codes and effects.
 #![tactic(auto)]
 
 ghost use Rattle.std.specs.Prelude.{◌≡◌, IfOk, IfErr};
