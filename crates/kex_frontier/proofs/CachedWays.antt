@@ -1,5 +1,5 @@
 -- What is known of where rows lead, and how it grows.
-use Rattle.std.proofs.Common.{◌≡◌, ℕ, zero, suc, ◌+◌, ◌*◌, ◌/◌, ◌-◌, ◌<◌, ◌≤◌, List, [], ◌∷◌, ◌++◌, ◌⊎◌, inl, inr, ⊎_elim, length, get_or, set, replicate, max, refl, sym, ap, ap₂, subst, ◌∙◌, arith, length-append, length-set, get_or-set_same, get_or-set_other}
+use Rattle.std.proofs.Common.{◌≡◌, ℕ, zero, suc, ◌+◌, ◌*◌, ◌/◌, ◌-◌, ◌<◌, ◌≤◌, List, [], ◌∷◌, ◌++◌, ◌⊎◌, ⊎_elim, length, get_or, set, replicate, refl, sym, ap, subst, ◌∙◌, arith, length-append, length-set, get_or-set_same, get_or-set_other}
 use Rattle.std.specs.Prelude.{All, Option, Some, None, IfSome}
 use Rattle.std.proofs.Math.Nat.{div-eq_of_lt, le-max_left, le-max_right, mul-add-div_right, mul-div_cancel, mul-le-mul_right}
 use Rattle.std.proofs.lemmas.Bool.{cases_eq, cases_lt}
@@ -9,7 +9,7 @@ use Rattle.kex_byteset.specs.Classes.{class_at, class_count}
 use Rattle.kex_machine.specs.declared.MNode.{MNode}
 use Rattle.kex_machine.specs.Nodes.{HasClasses}
 use Rattle.kex_frontier.specs.Rows.{HasSomeMark, IsByteStep, AreByteSteps}
-use Rattle.kex_frontier.specs.Caches.{KeptSteps, ways_from, IsRowStart, IsKeptAt, IsKeptNow, AreWaysInOrder, with_row, AreWays, KnowsSteps}
+use Rattle.kex_frontier.specs.Caches.{KeptSteps, ways_from, IsRowStart, IsKeptAt, AreWaysInOrder, with_row, AreWays, KnowsSteps}
 use Rattle.kex_frontier.proofs.RowSteps.{step_alike}
 
 -- the class of a byte is below their count

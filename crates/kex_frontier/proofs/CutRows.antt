@@ -1,5 +1,5 @@
 -- Words that are cut into rows.
-use Rattle.std.proofs.Common.{◌≡◌, ℕ, cond, false, Result, Ok, Err, is_ok, is_err, zero, suc, ◌+◌, ◌*◌, ◌-◌, ◌<◌, ◌≤◌, List, [], ◌∷◌, ◌++◌, length, get_or, take, drop, refl, sym, ap, ap₂, subst, ◌∙◌, arith, length-take, length-drop}
+use Rattle.std.proofs.Common.{◌≡◌, ℕ, cond, false, Result, Ok, Err, is_ok, is_err, zero, suc, ◌+◌, ◌*◌, ◌-◌, ◌<◌, ◌≤◌, List, [], ◌∷◌, ◌++◌, length, get_or, take, drop, refl, sym, ap, ap₂, subst, ◌∙◌, arith, length-drop}
 use Rattle.std.proofs.lemmas.List.{drop-drop, drop-append-le, length-take-le, nil_from_length, take-append-le, take_all}
 use Rattle.std.proofs.Math.Nat.{mul-le-mul_right}
 use Rattle.kex_frontier.specs.Caches.{RowList, cut_rows}

@@ -1,4 +1,4 @@
-use Rattle.std.proofs.Common.{◌≡◌, ◌<◌, ◌≤◌, ◌/◌, ◌+◌, ◌++◌, [], length, take, ap, subst, sym, refl, ◌∙◌, append-nil, arith}
+use Rattle.std.proofs.Common.{◌≡◌, ◌+◌, ◌++◌, length, take, ap, subst, sym, refl, ◌∙◌, append-nil, arith}
 use Rattle.std.proofs.lemmas.List.{length-take-le}
 use Rattle.kex_machine.proofs.Ranges.{is_trim}
 use Rattle.kex_machine.specs.Nodes.{HasClasses}

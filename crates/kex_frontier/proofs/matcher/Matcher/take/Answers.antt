@@ -1,4 +1,4 @@
-use Rattle.std.proofs.Common.{◌≡◌, ◌<◌, ◌/◌, ◌+◌, ◌∷◌, ◌++◌, [], length, subst, sym, refl, ap, ◌∙◌, true, arith}
+use Rattle.std.proofs.Common.{◌≡◌, ◌<◌, ◌+◌, ◌∷◌, ◌++◌, [], length, subst, sym, refl, ap, ◌∙◌, true, arith}
 use Rattle.kex_machine.specs.Nodes.{StaysWithin, HasClasses, node_moves}
 use Rattle.kex_machine.proofs.Nexts.{IsTrim}
 use Rattle.kex_machine.proofs.Ranges.{stays_within, is_trim}

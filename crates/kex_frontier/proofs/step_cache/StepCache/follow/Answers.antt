@@ -1,9 +1,8 @@
-use Rattle.std.proofs.Common.{◌≡◌, ℕ, ◌<◌, ◌≤◌, ◌+◌, ◌*◌, ◌/◌, ◌∷◌, [], List, length, take, get_or, refl, subst, sym, ap, ◌∙◌, arith}
-use Rattle.std.specs.Prelude.{Some}
+use Rattle.std.proofs.Common.{◌≡◌, ℕ, ◌<◌, ◌*◌, ◌/◌, [], List, length, take, get_or, subst, sym, ap, ◌∙◌}
 use Rattle.std.proofs.lemmas.List.Elements.{All-get_or}
 use Rattle.kex_byteset.specs.Classes.{class_count}
 use Rattle.kex_frontier.specs.Rows.{HasSomeMark, AreByteSteps}
-use Rattle.kex_frontier.specs.Caches.{KeptSteps, ways_from, IsRowStart, IsKeptAt, IsKeptNow, AreWaysInOrder, AreWays, KnowsSteps}
+use Rattle.kex_frontier.specs.Caches.{KeptSteps, ways_from, IsRowStart, IsKeptAt, IsKeptNow, AreWays, KnowsSteps}
 use Rattle.kex_frontier.proofs.CachedWays.{along_starts, along_rows, kept_start, number_at, some_value}
 use Rattle.kex_frontier.proofs.step_cache.StepCache.follow.Goals as goal
 use Rattle.kex_frontier.proofs.step_cache.StepCache.follow.Goals.{After-go_along-trail}

@@ -1,6 +1,4 @@
-use Rattle.std.proofs.Common.{◌≡◌, ℕ, [], List, get_or, refl, subst, sym, ap, ◌∙◌}
-use Rattle.std.specs.Prelude.{Some}
-use Rattle.kex_machine.specs.declared.MNode.{MNode}
+use Rattle.std.proofs.Common.{[], get_or, refl, subst, sym, ap, ◌∙◌}
 use Rattle.kex_machine.specs.Nodes.{HasClasses}
 use Rattle.kex_frontier.specs.Caches.{KeptSteps, IsKeptAt, IsKeptNow, IsRowStart, KnowsSteps}
 use Rattle.kex_frontier.proofs.CachedWays.{some_value, kept_on, knows_on, classes_on}

@@ -1,4 +1,4 @@
-use Rattle.std.proofs.Common.{◌≡◌, ℕ, ◌+◌, List, set, refl, subst, sym, ap, ◌∙◌}
+use Rattle.std.proofs.Common.{◌≡◌, ◌+◌, set, subst, sym}
 use Rattle.std.specs.Prelude.{Some}
 use Rattle.kex_machine.specs.Nodes.{HasClasses}
 use Rattle.kex_frontier.specs.Caches.{KeptSteps, IsKeptAt, KnowsSteps}
