@@ -1,5 +1,5 @@
 -- What the code holds of a count is what the machine holds.
-use Rattle.std.proofs.Common.{◌≡◌, ℕ, List, Some, refl, ap}
+use Rattle.std.proofs.Common.{ℕ, List, Some, refl, ap}
 use Rattle.kex_tokens.specs.declared.token.TokenKind.{TokenKind}
 use Rattle.kex_tokens.specs.declared.token.TokenKind.TheVariants as kinds
 use Rattle.kex_regexp.specs.declared.counts.Count.{Count}

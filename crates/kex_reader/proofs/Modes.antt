@@ -4,7 +4,7 @@ use Rattle.std.specs.Prelude.{IfOk, OnOk}
 use Rattle.std.proofs.lemmas.Option.{slice_get_within}
 use Rattle.kex_code.specs.declared.piece.Piece.{Piece}
 use Rattle.kex_code.specs.declared.piece.Piece.TheVariants as pieces
-use Rattle.kex_model.specs.Programs.{HasBelow, HasNames, HasPieces, IsCount}
+use Rattle.kex_model.specs.Programs.{HasBelow, HasNames, HasPieces}
 use Rattle.kex_model.specs.declared.program.Kind.{Kind as NodeKind}
 use Rattle.kex_model.specs.declared.program.Kind.TheVariants as nodes
 use Rattle.kex_tokens.specs.declared.token.TokenKind.{TokenKind}
@@ -16,7 +16,6 @@ use Rattle.kex_regexp.specs.declared.counts.CountOutcome.TheVariants as outcomes
 use Rattle.kex_regexp.specs.declared.counts.Bounds.{Bounds}
 use Rattle.kex_regexp.specs.Holding.{HoldsBounds, ShowsCount, ShowsCountStep}
 use Rattle.kex_regexp.specs.Outcomes.{are_bad}
-use Rattle.kex_regexp.specs.Postfixes.{is_bad_count}
 use Rattle.kex_regexp.proofs.CappedCounts.{bad_bounds}
 use Rattle.kex_reader.specs.declared.pieces.Assignment.{Assignment}
 use Rattle.kex_reader.specs.declared.word.Name.{Name as Named'}
@@ -25,7 +24,7 @@ use Rattle.kex_reader.specs.declared.inside.TermWait.TheVariants as waits
 use Rattle.kex_reader.specs.declared.inside.TermFault.{TermFault}
 use Rattle.kex_reader.specs.declared.inside.TermFault.TheVariants as faults
 use Rattle.kex_reader.specs.Syntax.{Word, Name, Literal, word, RegisterPart, Text, Held, Postfix, Turns, Atom, Write, Assign, Call, atom, postfix}
-use Rattle.kex_reader.specs.Reading.{Entry, Mode, Need, Ready, After, Turned, Named, Writing, Bracket, BracketName, Assigning, Assigned, InCount, Inside, Counting, CountStep, CountOn, CountRead, CountWrong, with_pre, goes, begin_pre, after_atom, after_term_turns, after_name, on_name, on_sign, first_part, next_part, count_step, on_count, step_in, inside, mode, entries}
+use Rattle.kex_reader.specs.Reading.{Entry, Mode, Need, Ready, After, Turned, Named, Writing, Bracket, BracketName, Assigning, Assigned, InCount, Inside, Counting, CountStep, CountOn, CountRead, CountWrong, goes, begin_pre, after_atom, after_term_turns, after_name, on_name, on_sign, first_part, next_part, count_step, on_count, step_in, inside, mode, entries}
 use Rattle.kex_reader.specs.Shown.{Made, IsNode, IsRegister, ShowsPre, ShowsAtom, ShowsPart, ShowsParts, assignment_kind}
 use Rattle.kex_reader.specs.Stands.{Keeps, NotesLeast, count_asks, ConstructsShow, HoldsTurns, IsLeaf, PieceShows, part_of, ShowsMode, SomeAtom, SomeConstructs, SomeInside, SomeName, SomeTermTurned, Steps}
 use Rattle.kex_reader.proofs.Drafts.{atom_within, parts_more}

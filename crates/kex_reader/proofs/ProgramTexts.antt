@@ -9,8 +9,6 @@ use Rattle.kex_model.specs.Programs.{Grammar}
 use Rattle.kex_model.specs.declared.program.Definition.{Definition as Root}
 use Rattle.kex_model.specs.declared.program.Start.{Start}
 use Rattle.kex_tokens.specs.declared.token.Token.{Token}
-use Rattle.kex_tokens.specs.declared.token.TokenFault.{TokenFault}
-use Rattle.kex_tokens.specs.declared.token.TokenFault.TheVariants as token_faults
 use Rattle.kex_tokens.specs.Texts.{AreTokens, most_text}
 use Rattle.kex_regexp.specs.declared.breaks.Break.{Break}
 use Rattle.kex_regexp.specs.declared.breaks.Break.TheVariants.{BadRegex, BadCount, BadSet, OverLimit}

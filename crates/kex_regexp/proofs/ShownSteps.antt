@@ -4,7 +4,6 @@ use Rattle.std.specs.Prelude.{reverse, IfOk, IfErr, IsErrAnd, ◌==◌, not}
 use Rattle.std.proofs.lemmas.Bool.{ne_eqb}
 use Rattle.kex_byteset.specs.Sets.{HasExactly, has}
 use Rattle.kex_byteset.proofs.Flags.{in_words}
-use Rattle.kex_model.specs.declared.program.Kind.{Kind}
 use Rattle.kex_model.specs.declared.program.Kind.TheVariants as kinds
 use Rattle.kex_model.specs.declared.program.Node.{Node}
 use Rattle.kex_regexp.specs.declared.constructs.Construct.{Construct}

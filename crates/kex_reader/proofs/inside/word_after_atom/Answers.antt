@@ -1,9 +1,9 @@
-use Rattle.std.proofs.Common.{◌+◌, [], ◌++◌, length, ap, ◌∙◌, subst, arith, inl, inr}
+use Rattle.std.proofs.Common.{◌+◌, ◌++◌, length, ap, ◌∙◌, subst, inl, inr}
 use Rattle.kex_tokens.specs.declared.token.TokenKind.TheVariants as kinds
 use Rattle.kex_reader.specs.Syntax.{Once, ZeroOrMore, OneOrMore, Optional, atom}
 use Rattle.kex_reader.specs.Reading.{entries, with_pre}
 use Rattle.kex_reader.proofs.Steps.{to, memory_exit, count_opens, after_kind, after_other, after_star, after_plus, after_question, after_brace, once_shows, put_place, on_keeps, begins_turns, star_turns, plus_turns, optional_turns}
-use Rattle.kex_reader.proofs.MoreChecks.{same, on_same, on_from, moved, after_quiet, after_begins}
+use Rattle.kex_reader.proofs.MoreChecks.{same, on_from, moved, after_quiet, after_begins}
 use Rattle.kex_reader.specs.Syntax.{word}
 use Rattle.kex_reader.specs.Stands.{NotesLeast, begin_asks}
 use Rattle.kex_reader.proofs.Steps.{put_index}
