@@ -1,13 +1,14 @@
 -- The subcommand that words in form name.
 use Rattle.std.proofs.Common.{◌≡◌, ◌∙◌, List, [], ◌∷◌, Bool, true, false, refl, sym, ap, subst, inl, inr, rules, map}
-use Rattle.std.specs.Prelude.{Option, Some, None, ◌&&◌, not, is_some, find, option_map, unwrap_or}
-use Rattle.std.specs.List.{list_any}
+use Rattle.std.specs.Prelude.{Option, Some, None, ◌&&◌, not, is_some, find, option_map}
+use Rattle.std.specs.List.{list_all, list_any}
 use Rattle.clap.specs.Words.{Row, Text, Kinds, subcommand_of, fault_of}
 use Rattle.clap.specs.Kinds.{check_kinds, or_else}
 use Rattle.clap.specs.Simple.{Shape, argument_words, built, entered, names_of, rows_at, label_of}
 use Rattle.clap.specs.Facts.{explicit_source}
 use Rattle.clap.specs.Faults.{check_fault, defaults_fault, level_fault, settle_fault, walk_fault}
 use Rattle.clap.specs.Takes.{is_given}
+use Rattle.clap.proofs.WalkLemmas.{both}
 use Rattle.clap.specs.Walk.{Held, Names, answers_to, finished, is_empty, settled, stop_after, walk, walk_from}
 use Rattle.kex_words.specs.Words.{kex_app}
 use Rattle.kex_words.specs.Words.{Asked, asked_by, asked_in, asked_of, is_in_form}
@@ -94,14 +95,27 @@ named-in-form words is =
     let has = has-subcommand _ _ _ _ _ _ refl (empty-of (fault_of kex_app words) is) in
     entered-name (stop_after (built kex_app).top.rules (names_of (built kex_app)) (argument_words kex_app words)) has
 
+-- Each of these names asks for something, whatever its matches are.
+some-if : (p : Text → Bool) (names : List Text) (name : Text) → list_all p names ≡ true → IsOneOf names name → p name ≡ true
+some-if p [] name all is = absurd is
+some-if p (x ∷ xs) name all (inl same) = rw same (both (p x) (list_all p xs) all).0
+some-if p (x ∷ xs) name all (inr later) = some-if p xs name (both (p x) (list_all p xs) all).1 later
+
+all-ask : (rows : List Row) → list_all (λ name. is_some (asked_by name rows)) subcommands ≡ true
+all-ask rows = refl
+
+held : (o : Option Asked) → is_some o ≡ true → (what : Asked) × (o ≡ Some what)
+held None is = let bad : false ≡ true = is in cc
+held (Some what) is = (what, refl)
+
 pub asks-by : (words : List Text) (what : Asked) → asked_of words ≡ Some what → AsksBySubcommand words what
 asks-by words what e =
     let is = asked-in-form words what e in
     let n = named-in-form words is in
-    let same : Some what ≡ Some (asked_by n.0 n.1) = sym e ∙ in-form words is ∙ ap asked_in n.3 in
-    record { name = n.0; rows = n.1; known = n.2; named = n.3; asks = ap (λ o. unwrap_or o what) same }
+    record { name = n.0; rows = n.1; known = n.2; named = n.3; asks = sym (ap asked_in n.3) ∙ sym (in-form words is) ∙ e }
 
 pub asks-in-form : (words : List Text) → is_in_form words ≡ true → (what : Asked) × (asked_of words ≡ Some what)
 asks-in-form words is =
     let n = named-in-form words is in
-    (asked_by n.0 n.1, in-form words is ∙ ap asked_in n.3)
+    let asks = held (asked_by n.0 n.1) (some-if (λ name. is_some (asked_by name n.1)) subcommands n.0 (all-ask n.1) n.2) in
+    (asks.0, in-form words is ∙ ap asked_in n.3 ∙ asks.1)

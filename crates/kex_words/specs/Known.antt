@@ -8,7 +8,7 @@ use Rattle.kex_words.specs.Words.{Asked, Reach, asked_of}
 use Rattle.kex_words.specs.Words.Asked.{ToStream, ToCheck, ToCompile, ToExec, ToEach, ToTry}
 use Rattle.kex_words.specs.Words.Mode.{running, coding, acting, testing}
 
--- the words of a line, between single blanks, so that an empty word may stand among them
+-- the words of a line, between single blanks, so that an empty word may be among them
 abbrev pub words_of : String → List Text
 words_of line = slice_split (λ byte. byte == 32) (codes line)
 

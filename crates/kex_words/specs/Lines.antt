@@ -1,4 +1,4 @@
--- The line that a call leaves in the notes, and the lines of a check and of a trial.
+-- The line that a call leaves in the notes, and lines of counts.
 use Rattle.std.specs.Prelude.{ℕ, List, [], ◌∷◌, Bool, codes, decimal, if◌then◌else◌}
 use Rattle.std.specs.List.{concat}
 use Rattle.kex_words.specs.Words.{usage_line}

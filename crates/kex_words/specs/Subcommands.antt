@@ -22,7 +22,7 @@ pub record AsksBySubcommand (words : List Text) (what : Asked) : Type 0 where
   pub rows : List Row
   pub known : IsOneOf subcommands name
   pub named : NamesSubcommand words name rows
-  pub asks : what ≡ asked_by name rows
+  pub asks : asked_by name rows ≡ Some what
 
 abbrev pub AskBySubcommand : Type 0
 AskBySubcommand = (words : List Text) (what : Asked) → asked_of words ≡ Some what

@@ -12,9 +12,9 @@ use Rattle.clap.specs.declared.builder.action.ArgAction.TheVariants.{SetTrue}
 use Rattle.clap.specs.declared.builder.value_parser.ValueParser.TheVariants as vp
 use Rattle.kex_words.specs.declared.asked.RunLimits.{RunLimits}
 use Rattle.kex_words.specs.declared.asked.Rings.{Rings}
-use Rattle.kex_words.specs.declared.asked.Command.{Command}
-use Rattle.kex_words.specs.declared.asked.Command.TheVariants.{Stream, Check, Compile}
-use Rattle.kex_words.specs.declared.asked.Command.TheVariants.{Exec, Each, Trial}
+use Rattle.kex_words.specs.declared.commands.Command.{Command}
+use Rattle.kex_words.specs.declared.commands.Command.TheVariants.{Stream, Check, Compile}
+use Rattle.kex_words.specs.declared.commands.Command.TheVariants.{Exec, Each, Trial}
 use Rattle.kex_words.specs.declared.asked.Mode.{Mode as Moded}
 use Rattle.kex_words.specs.declared.asked.Mode.TheVariants as of_mode
 
@@ -83,9 +83,9 @@ abbrev pub with_rules : App → List Rule → App
 with_rules app [] = app
 with_rules app (rule ∷ rules) = with_rules (with_rule app rule) rules
 
--- a command that makes tables and reads no input
-abbrev pub table_app : Text → App
-table_app name = with_rules (new_app name) (program_rule ∷ states_rule ∷ [])
+-- a command on a program alone, which reads no input
+abbrev pub program_app : Text → App
+program_app name = with_rules (new_app name) (program_rule ∷ states_rule ∷ [])
 
 -- a command on a program of one stage, which makes no table
 abbrev pub stage_app : Text → App
@@ -126,19 +126,11 @@ abbrev pub with_subcommands : App → List App → App
 with_subcommands app [] = app
 with_subcommands app (sub ∷ subs) = with_subcommands (with_subcommand app sub.top) subs
 
-abbrev pub begun_app : App
-begun_app = with_subcommands bare_app
-    (run_app ∷ table_app (codes "check") ∷ stage_app (codes "code") ∷ [])
-
-abbrev pub played_app : App
-played_app = with_subcommands begun_app (stage_app (codes "act") ∷ stage_app (codes "test") ∷ [])
-
-abbrev pub tried_app : App
-tried_app = with_subcommands played_app (trial_app ∷ table_app (codes "compile") ∷ [])
-
 -- one of these subcommands, which is required
 abbrev pub kex_app : App
-kex_app = with_subcommands tried_app (exec_app ∷ each_app ∷ [])
+kex_app = with_subcommands bare_app (run_app ∷ program_app (codes "check")
+    ∷ stage_app (codes "code") ∷ stage_app (codes "act") ∷ stage_app (codes "test")
+    ∷ trial_app ∷ program_app (codes "compile") ∷ exec_app ∷ each_app ∷ [])
 
 -- the line of words that are out of form
 abbrev pub usage_line : List ℕ
@@ -231,25 +223,32 @@ optimal_in rows = has_text (codes "true") (first_of (codes "optimal") rows)
 abbrev pub lines_in : List Row → ℕ
 lines_in rows = unwrap_or (number_at (codes "N") 0 most_lines rows) 0
 
--- what the subcommand of this name asks for by its matches
-abbrev pub asked_by : Text → List Row → Asked
+-- what the subcommand of this name asks for by its matches, if there is one
+abbrev pub asked_by : Text → List Row → Option Asked
 asked_by name rows =
-    if bytes_eq name (codes "check") then ToCheck (program_in rows) (states_in rows)
-    else if bytes_eq name (codes "code") then ToStream coding (program_in rows) (reach_in rows)
-    else if bytes_eq name (codes "act") then ToStream acting (program_in rows) (reach_in rows)
-    else if bytes_eq name (codes "test") then ToStream testing (program_in rows) (reach_in rows)
+    if bytes_eq name (codes "run") then Some
+    (ToStream (running (states_in rows) (optimal_in rows)) (program_in rows) (reach_in rows))
+    else if bytes_eq name (codes "check")
+    then Some (ToCheck (program_in rows) (states_in rows))
+    else if bytes_eq name (codes "code")
+    then Some (ToStream coding (program_in rows) (reach_in rows))
+    else if bytes_eq name (codes "act")
+    then Some (ToStream acting (program_in rows) (reach_in rows))
+    else if bytes_eq name (codes "test")
+    then Some (ToStream testing (program_in rows) (reach_in rows))
     else if bytes_eq name (codes "trial")
-    then ToTry (lines_in rows) (block_in rows) (rings_in rows) (workers_in rows)
-    else if bytes_eq name (codes "compile") then ToCompile (program_in rows) (states_in rows)
-    else if bytes_eq name (codes "exec") then ToExec (table_in rows) (reach_in rows)
-    else if bytes_eq name (codes "each")
-    then ToEach (program_in rows) (states_in rows) (max_input_in rows) (workers_in rows)
-    else ToStream (running (states_in rows) (optimal_in rows)) (program_in rows) (reach_in rows)
+    then Some (ToTry (lines_in rows) (block_in rows) (rings_in rows) (workers_in rows))
+    else if bytes_eq name (codes "compile")
+    then Some (ToCompile (program_in rows) (states_in rows))
+    else if bytes_eq name (codes "exec") then Some (ToExec (table_in rows) (reach_in rows))
+    else if bytes_eq name (codes "each") then Some
+    (ToEach (program_in rows) (states_in rows) (max_input_in rows) (workers_in rows))
+    else None
 
 -- the same, where there is a subcommand; words in form have one
 abbrev pub asked_in : Option (Text × List Row) → Option Asked
 asked_in None = None
-asked_in (Some sub) = Some (asked_by sub.0 sub.1)
+asked_in (Some sub) = asked_by sub.0 sub.1
 
 -- the words meet the form of the command
 abbrev pub is_in_form : List Text → Bool

@@ -1,4 +1,4 @@
-// What a command line asks for.
+// What commands are asked: limits, modes, and why no command is read.
 ghost use Rattle.std.specs.Prelude.{◌≡◌, ◌≤◌, ◌^◌};
 ghost use Rattle.kex_words.specs.declared.asked.WordsRefusal.TheVariants as refusal;
 
@@ -102,35 +102,6 @@ pub struct Stream<'a> {
     pub mode: Mode,
     pub program: &'a str,
     pub limits: RunLimits,
-}
-
-/// What the program is to do. A program of the language is named as the shelf has it.
-#[derive(Clone, Copy, Debug, PartialEq, Eq)]
-pub enum Command<'a> {
-    /// Reads the input to its end.
-    Stream(Stream<'a>),
-    /// Asks whether the program breaks a rule, and reads no input.
-    Check {
-        program: &'a str,
-        states: StateLimit,
-    },
-    /// Writes the tables of the program's stages, and reads no input.
-    Compile {
-        program: &'a str,
-        states: StateLimit,
-    },
-    /// Reads the input to its end, by the tables of a file that is named as the shelf has it.
-    Exec {
-        table: &'a str,
-        limits: RunLimits,
-    },
-    /// Answers each line of the input as an input of its own.
-    Each {
-        program: &'a str,
-        limits: LineLimits,
-    },
-    /// Runs a program of its own on lines of its own.
-    Trial(TrialLines),
 }
 
 /// Why no command is read.

@@ -1,4 +1,4 @@
-// The lines of a check and of a trial.
+// Lines of counts.
 ghost use Rattle.std.specs.Prelude.{OnOk, OnErr};
 ghost use Rattle.std.specs.Io.KnownBytes.{Appends};
 ghost use Rattle.kex_ports.specs.Bytes.{AppendsFront};

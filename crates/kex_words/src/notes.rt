@@ -6,7 +6,7 @@ ghost use Rattle.kex_words.specs.Lines.{line_end, line_of, refused_line, rejecte
 ghost use Rattle.kex_words.specs.Lines.{too_long_line};
 ghost use Rattle.kex_words.specs.declared.notes.Note.TheVariants.{Nothing};
 
-use crate::form::USAGE;
+use crate::commands::USAGE;
 use crate::parts::{LinePart, write_parts, write_text};
 use crate::refusals::{Refusal, RefusalPlace};
 use kex_ports::{Failed, Sink};

@@ -9,8 +9,9 @@ use crate::writing::write_all;
 use itoa::Buffer;
 use kex_ports::{Failed, Sink};
 
+/// A part of a line.
 #[derive(Clone, Copy)]
-pub(crate) enum LinePart<'a> {
+pub enum LinePart<'a> {
     Text(&'a str),
     Number(u64),
 }
@@ -42,8 +43,8 @@ fn write_part<N: Sink>(sink: &mut N, part: LinePart) -> Result<(), Failed>
     }
 }
 
-/// Writes the parts one after the other, or a front of them where the sink fails.
-pub(crate) fn write_parts<N: Sink>(sink: &mut N, parts: &[LinePart]) -> Result<(), Failed>
+/// Writes the parts one after the other, or a front of them where the sink fails. Takes no memory.
+pub fn write_parts<N: Sink>(sink: &mut N, parts: &[LinePart]) -> Result<(), Failed>
     ensures tells { TellsGain (change_of N.held N.faults sink.old sink.new)
         (concat (map part_bytes parts.now)) result }
     ensures unfinished { IsUnfinished (N.ending sink.old) (N.ending sink.new) result }

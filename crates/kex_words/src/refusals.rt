@@ -55,7 +55,7 @@ impl Rule {
     }
 }
 
-/// Where in a text or a file a rule is broken. Each rule is told with one kind of place.
+/// Where in a text or a file a rule is broken. Each rule has one kind of place.
 #[derive(Clone, Copy, Debug, PartialEq, Eq)]
 pub enum RefusalPlace {
     /// K00, K09, K14, K18: of the whole text or file.

@@ -5,7 +5,7 @@ use Rattle.clap.specs.Words.{found_of, one_text}
 use Rattle.clap.proofs.WalkLemmas.{one_text-rows}
 use Rattle.kex_words.specs.Words.{bounded_number}
 use Rattle.kex_words.proofs.Numbers.{number-read}
-use Rattle.kex_words.proofs.reading.number.Goals as goal
+use Rattle.kex_words.proofs.options.number_in.Goals as goal
 
 pub returns-clause-value : goal.returns-clause-value
 returns-clause-value c =
