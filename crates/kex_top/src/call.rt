@@ -13,15 +13,22 @@ ghost use Rattle.kex_top.specs.Starts.{status_of_answer};
 ghost use Rattle.kex_top.specs.Status.{note_of};
 ghost use Rattle.kex_top.specs.declared.status.Status.TheVariants.{Done, Memory};
 
-use crate::check::answer_check;
-use crate::compile::answer_compile;
-use crate::each::answer_each;
-use crate::exec::answer_exec;
+mod check;
+mod compile;
+mod each;
+mod exec;
+mod serve;
+mod trial;
+
+use crate::call::check::answer_check;
+use crate::call::compile::answer_compile;
+use crate::call::each::answer_each;
+use crate::call::exec::answer_exec;
+use crate::call::serve::answer_stream;
+use crate::call::trial::answer_trial;
 use crate::host::Host;
-use crate::serve::answer_stream;
 use crate::start::{StartError, status_of};
 use crate::status::Status;
-use crate::trial::answer_trial;
 use kex_ports::{Gate, Shelf, Sink, Source};
 use kex_words::{Command, read, tell};
 use std::alloc::Global;
@@ -101,13 +108,7 @@ fn answer<R: Threads + Sync, G: Gate + Sync, H: Shelf, S: Source, K: Sink>(
 /// `run` writes what the program means on the input: exactly the meaning of its greedy parse. Where
 /// the input breaks off or has no parse it is exactly what its surviving paths agreed on before the
 /// first byte after which no continuation parses. Of a program of several stages each stage reads
-/// what the one before it wrote. `code` writes the code of the greedy parse, `act` what the input
-/// means as the code of a tree, and `test` only asks whether there is a parse, all of a program of
-/// one stage. `each` does for each line of the input what `run` does for an input, and writes for a
-/// line that is rejected what the notes would say of it. `check` writes a line with the counts of
-/// stages, places and states, and `trial` one that sums up what a program of its own writes for
-/// lines of its own. `compile` writes a table file of the program, and `exec` does by such a file,
-/// once it is checked, what `run` does by the program in it.
+/// what the one before it wrote. The cases of `Performs` say what the other commands do.
 pub fn kex<R: Threads + Sync, H: Shelf, S: Source, K: Sink, N: Sink, G: Gate + Sync>(
     rt: &R,
     alloc: Global,
@@ -137,7 +138,7 @@ pub fn kex<R: Threads + Sync, H: Shelf, S: Source, K: Sink, N: Sink, G: Gate + S
         (calls.takes ≡ None → shelf.new ≡ shelf.old) × (calls.block ≡ None → input.new ≡ input.old)
         × (calls.writes ≡ false → output.new ≡ output.old) }
 
-    // What is told of shelf, source and sink, and the answer Done, fix the output.
+    // What shelf, source and sink show, and the answer Done, fix the output.
     ensures headline { (asked : Asked) (limit : ℕ) (text input_bytes before : List ℕ)
         → asked_of (map string_bytes words.now) ≡ Some asked → runs_within asked ≡ Some limit
         → told_text (H.texts shelf.old) asked ≡ present text

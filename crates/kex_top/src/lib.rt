@@ -6,10 +6,6 @@
 
 mod any_pipe;
 mod call;
-mod check;
-mod compile;
-mod each;
-mod exec;
 mod host;
 mod limits;
 mod pass;
@@ -20,7 +16,6 @@ mod program;
 mod refused;
 mod rings;
 mod rounds;
-mod serve;
 mod sharing;
 mod single;
 mod start;
@@ -28,7 +23,6 @@ mod status;
 mod stream;
 mod taking;
 mod tally;
-mod trial;
 mod trial_lines;
 mod turns;
 mod workers;

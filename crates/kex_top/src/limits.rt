@@ -33,7 +33,7 @@ pub(crate) fn limits_of(mode: Mode) -> Limits
     }
 }
 
-/// What `check`, `trial`, `each` and `compile` ask, with this many states at most.
+/// What a command asks that makes tables, with this many states at most.
 pub(crate) fn limits_to_check(states: u32) -> Limits
     ensures { result ≡ limits_to_check states }
 {

@@ -5,7 +5,7 @@ ghost use Rattle.kex_top.specs.declared.rounds.TheConstants.{MUCH};
 
 use crate::rounds::MUCH;
 
-// A piece has so many bytes at first.
+// A piece has this many bytes at first.
 const FIRST: usize = 16_384;
 
 /// How many bytes a piece has at most. They are more as long as what stages make of one isn't
@@ -21,7 +21,7 @@ pub(crate) struct PieceLength {
 }
 
 impl PieceLength {
-    /// Pieces of so many bytes at most.
+    /// Pieces of at most this many bytes.
     pub(crate) fn new(longest: usize) -> PieceLength
         requires first { 16384 ≤ longest }
         requires most { longest ≤ 1048576 }

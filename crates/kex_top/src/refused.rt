@@ -1,4 +1,4 @@
-// The refusal of a program or of a table file, as it is told.
+// The refusal of a program or of a table file, as its note has it.
 ghost use Rattle.std.specs.Prelude.{◌≡◌, ◌≤◌, length};
 ghost use Rattle.kex_tabfile.specs.Readers.{most_bytes};
 ghost use Rattle.kex_top.specs.Refusals.{IsFileStartOf, IsStartOf, broken, broken_at, broken_in};

@@ -41,7 +41,7 @@ impl Status {
         }
     }
 
-    // What is told of it.
+    // What it says.
     pub(crate) fn note(&self) -> Note
         ensures { result ≡ note_of self.now }
     {

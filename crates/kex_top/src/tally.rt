@@ -37,7 +37,7 @@ impl Tally {
         }
     }
 
-    /// `made` bytes more were given, and these written for them. A count stands still at its last
+    /// `made` bytes more were given, and these written for them. A count stays at its last
     /// value.
     pub(crate) fn add(&self, made: usize, written: &[u8]) -> Tally
         ensures made { result.made ≡ saturated_count (self.now.made + made) }
