@@ -1,5 +1,5 @@
 -- What holds of each command, case by case.
-use Rattle.std.proofs.Common.{◌≡◌, ℕ, List, false, arith, refl, subst}
+use Rattle.std.proofs.Common.{◌≡◌, ℕ, Bool, List, false, arith, refl, subst}
 use Rattle.std.specs.Prelude.{Option, Some, None, IsSome}
 use Rattle.std.proofs.lemmas.Bool.{false≢true}
 use Rattle.kex_ports.specs.Named.{Texts}
@@ -12,6 +12,8 @@ use Rattle.kex_words.specs.Words.{Asked, Mode, Reach}
 use Rattle.kex_words.specs.Words.Asked.{ToCheck, ToCompile, ToEach, ToExec, ToStream, ToTry}
 use Rattle.kex_words.specs.Words.Mode.{running, coding, acting, testing}
 use Rattle.kex_words.specs.declared.refusals.Refusal.{Refusal}
+use Rattle.kex_top.specs.Answer.{Said}
+use Rattle.kex_top.specs.ByLines.{IsShort, RanByLines, SaysLines, line_block}
 use Rattle.kex_top.specs.Commands.{InputIsGood, Performs, StreamParses, TellsBytes, calls_of, runs_within, taken_for, told_text}
 use Rattle.kex_top.specs.Kex.{BreaksNoRule, CommandWorks, Headline, WorksWith}
 use Rattle.kex_top.specs.Modes.{SaysBy}
@@ -40,7 +42,7 @@ module _ (texts : Option Texts) (reads : Option Reads) (source sink : StreamChan
     pub meant : (limit : ℕ) (text input before : List ℕ) → runs_within asked ≡ Some limit → told_text texts asked ≡ present text → source.old ≡ Some input → sink.old ≡ Some before
         → CommandWorks asked texts reads source sink Done → Headline (taken_for asked) text limit input before source.new sink.new
 
-  -- A text that is told, and whose shelf doesn't break, is taken.
+  -- A text that is shown, and whose shelf doesn't break, is taken.
   on-shelf : (name : List ℕ) (asked : Asked) → (calls_of (Some asked)).takes ≡ Some name → told_text texts asked ≡ told_of texts name → (shelf : ShelfChange)
       → BreaksNoRule asked texts shelf source sink → IsSome (calls_of (Some asked)).takes → ShelfServes (calls_of (Some asked)).takes texts shelf ShelfFault → ⊥
   on-shelf name asked takes told shelf g some h =
@@ -98,22 +100,31 @@ module _ (texts : Option Texts) (reads : Option Reads) (source sink : StreamChan
       meant = means;
     }
 
-  by-lines : (name : List ℕ) (states most workers : ℕ) → CommandLaws (ToEach name states most workers)
-  by-lines name states most workers = record {
-    no_usage = λ text P h. h.ends;
-    no_refusal = λ text P r h. h.ends;
-    no_shelf_fault = λ text P h. h.ends;
-    unfailed = λ shelf g some h. on-shelf name (ToEach name states most workers) refl refl shelf g some h;
-    unrejected = λ shelf r g w. w.performs.ends;
-    unlimited = λ shelf r g w. w.performs.ends;
-    unbounded = λ shelf g w.
-        let short = read-within source.old source.new g.input_is_good.input w.performs.w g.input_is_good.rest w.performs.read in
-        let few = g.input_is_good.short in
-        let long = w.performs.ends.0.0 in omega arith;
-    unstopped = λ shelf g w. let rose = w.performs.ends.1.2.1 in let quiet = g.readable refl in omega arith;
-    unspoilt = λ shelf g w. let rose = w.performs.ends.2.1 in let quiet = g.writable in omega arith;
-    meant = λ limit text input before within is rest held w. absurd (no-limit limit within);
-  }
+  -- A command that answers the lines of the source one by one.
+  module _ (asked : Asked) (runs : runs_within asked ≡ None) (says : Grammar → List ℕ → Bool → Said → Type 0) (last : ℕ)
+      (ran : (text : List ℕ) (P : Grammar) (s : Status) → Performs asked text P reads source sink s → RanByLines (says P) last source sink s)
+      (short : (text : List ℕ) → InputIsGood asked text source → IsShort source)
+      (block : IsSome (calls_of (Some asked)).block)
+      (taken : (shelf : ShelfChange) → BreaksNoRule asked texts shelf source sink → IsSome (calls_of (Some asked)).takes
+      → ShelfServes (calls_of (Some asked)).takes texts shelf ShelfFault → ⊥) where
+    by-lines : CommandLaws asked
+    by-lines = record {
+      no_usage = λ text P h. (ran text P Usage h).ends;
+      no_refusal = λ text P r h. (ran text P (Refused r) h).ends;
+      no_shelf_fault = λ text P h. (ran text P ShelfFault h).ends;
+      unfailed = taken;
+      unrejected = λ shelf r g w. (ran w.text w.program (Rejected r) w.performs).ends;
+      unlimited = λ shelf r g w. (ran w.text w.program (TooLong r) w.performs).ends;
+      unbounded = λ shelf g w.
+          let x = ran w.text w.program InputTooLong w.performs in
+          let good = short g.text g.input_is_good in
+          let within = read-within source.old source.new good.input x.w good.rest x.read in
+          let few = good.short in
+          let long = x.ends.0.0 in omega arith;
+      unstopped = λ shelf g w. let rose = (ran w.text w.program ReadFault w.performs).ends.1.2.1 in let quiet = g.readable block in omega arith;
+      unspoilt = λ shelf g w. let rose = (ran w.text w.program WriteFault w.performs).ends.2.1 in let quiet = g.writable in omega arith;
+      meant = λ limit text input before within is rest held w. absurd (no-limit limit (subst (λ (z : Option ℕ). z ≡ Some limit) runs within));
+    }
 
   run-meant : (mode : Mode) (name : List ℕ) (reach : Reach) (limit : ℕ) (text input before : List ℕ) → runs_within (ToStream mode name reach) ≡ Some limit → told_of texts name ≡ present text → source.old ≡ Some input → sink.old ≡ Some before
       → CommandWorks (ToStream mode name reach) texts reads source sink Done → Headline (taken_for (ToStream mode name reach)) text limit input before source.new sink.new
@@ -135,7 +146,8 @@ module _ (texts : Option Texts) (reads : Option Reads) (source sink : StreamChan
   laws_of (ToStream mode name reach) = runner (ToStream mode name reach) mode reach.max_input (last_given reach.block reads) (λ text P. Spells text P)
       (λ text P s h. h) (λ text P w. w.spells) (λ text g. g) refl (on-shelf name (ToStream mode name reach) refl refl) (run-meant mode name reach)
   laws_of (ToCheck name states) = teller (ToCheck name states) refl (λ text P s h. (_, h.1.told)) (on-shelf name (ToCheck name states) refl refl)
-  laws_of (ToEach name states most workers) = by-lines name states most workers
+  laws_of (ToEach name states most workers) = by-lines (ToEach name states most workers) refl (λ P w e said. SaysLines P most w e said) (last_given line_block reads)
+      (λ text P s h. h) (λ text g. g) refl (on-shelf name (ToEach name states most workers) refl refl)
   laws_of (ToTry lines block rings workers) = teller (ToTry lines block rings workers) refl (λ text P s h. (_, h.1.told)) (λ shelf g some h. false≢true some)
   laws_of (ToCompile name states) = teller (ToCompile name states) refl (λ text P s h. (_, h.1.told)) (on-shelf name (ToCompile name states) refl refl)
   laws_of (ToExec name reach) = runner (ToExec name reach) (running 0 false) reach.max_input (last_given reach.block reads) (λ file P. HoldsProgram file P)
