@@ -1,7 +1,7 @@
 //! The program: the words of its command line, standard input, standard output, standard error for
 //! the notes, and files for the shelf.
 //!
-//! Stands on `kex_ports`, `kex_top` and `kex_words`. The adapters meet the clauses of the ports;
+//! Uses `kex_ports`, `kex_top` and `kex_words`. The adapters meet the clauses of the ports;
 //! their counts rise at each fault.
 #![tactic(auto)]
 

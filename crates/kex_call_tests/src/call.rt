@@ -115,7 +115,7 @@ fn table_of<R: Threads + Sync>(rt: &R, alloc: Global, program: &[u8]) -> Result<
     Ok(table)
 }
 
-/// The bytes of a row's part: the sign `feed` stands for a line feed, and `a%b%3%c` for `abbbc`.
+/// The bytes of a row's part: the sign `feed` is a line feed, and `a%b%3%c` is read as `abbbc`.
 pub(crate) fn bytes_of(alloc: Global, part: &str, feed: char) -> Result<Vec<u8>, Fail> {
     let text = part.replace(alloc, feed, "\n")?;
     let mut pieces = text.split('%');
@@ -150,7 +150,7 @@ fn ports_of(part: &str) -> Result<Ports, Fail> {
 #[derive(Clone, Copy)]
 pub(crate) struct CallRows<'a> {
     pub text: &'a str,
-    /// What stands for a line feed.
+    /// The sign of a line feed.
     pub feed: char,
     /// Whether the program is compiled, and its table file is on the shelf in its place.
     pub compiled: bool,

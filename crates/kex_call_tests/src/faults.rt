@@ -99,10 +99,11 @@ fn each_call_fails(rt: HostRuntime) -> Result<(), Fail> {
     Ok(())
 }
 
-// A fault of writing is reported before one of reading; a sink that takes two bytes a write holds
-// two when its second write fails; a fault of the notes changes no status; each part of the line
-// that a check writes is a write, and then the end; an unfinished line isn't answered after a fault
-// of reading, and the answers to the lines of a read are a write; and the shelf fails each command.
+// A fault of writing comes before one of reading; a sink that takes two bytes a write holds two
+// when its second write fails; a fault of the notes changes no status; each part of the line of
+// counts is a write, and then the end; an unfinished line isn't answered after a fault of reading,
+// and the answers to the lines of a read are a write; and where the shelf fails a command doesn't
+// begin.
 const OTHERS: &str = r#"
 run p # main := /a*/ # aaa # aaa # 5 write fault # given=1 taken=1 read=4 write=4
 run p # main := /a*/ # aaa # aa # 5 write fault # given=3 taken=2 write=2

@@ -88,8 +88,8 @@ fn stages_read_and_write(rt: HostRuntime) -> Result<(), Fail> {
 }
 
 // The input of a second stage breaks off, and what is agreed on is written; the last stage that
-// rejects is reported; an input that breaks off isn't ended, even where it has a parse; and each
-// stage has the limit.
+// rejects is named; an input that breaks off isn't ended, even where it has a parse; and each stage
+// has the limit.
 const PIPELINES: &str = r#"
 run p # main := /ab*c/ # abx # ab # 1 rejected: stage 1 at byte 2
 run p # start: a >> b a := (~/x/ "yy")* b := (~/yyy/ "z")* # xxx # zz # 0
@@ -111,9 +111,9 @@ fn rings_change_nothing(rt: HostRuntime) -> Result<(), Fail> {
     each_holds(&rt, rt.alloc(), PIPELINES, &RINGS)
 }
 
-// Where stages say what is best: a side that is covered from the start; a record that might go on
-// past its end; sides that each may still be the one; a stage that reads more of what breaks off,
-// and is rejected for it; the limit; and calls that fail.
+// By what is best: a side that is covered from the start; a record that might go on past
+// its end; sides that each may still be the one; a stage that reads more of what breaks off, and is
+// rejected for it; the limit; and calls that fail.
 const EARLIER: &str = r#"
 run p --optimal # main := /a*/ "x" | /a*/ "y" # aab # aa # 1 rejected: stage 1 at byte 2
 run p --optimal # main := /a*/ "x" | /a*/ "y" # aa # aax # 0

@@ -45,7 +45,7 @@ fn limits_of(word: &str) -> Result<Limits, Fail> {
     })
 }
 
-// A text, where `a%b%3%c` stands for `abbbc`.
+// A text, where `a%b%3%c` is read as `abbbc`.
 fn text_of(alloc: Global, spelling: &str) -> Result<Vec<u8>, Fail> {
     let mut pieces = spelling.split('%');
     let mut text = pieces.next().unwrap_or("").as_bytes().to_vec(alloc)?;

@@ -1,5 +1,5 @@
-//! Words and what they ask for. Notes and the lines of `check` and `trial` are seen through the
-//! call `kex`.
+//! Words and what they ask for, in some rows: `Known` of `kex_words` proves more. Notes, and lines
+//! that commands write, are seen through the call `kex`.
 use kex_words::read;
 use std::alloc::{AllocError, Global};
 use std::test::Fail;

@@ -45,7 +45,7 @@ module _ (g : Graph) (limit : ℕ) (range : IsMachineInRange g.start g.nodes g.r
   pub code-answers : (w : List ℕ) (e : Bool) → (a : Answer) × MachineCodeAnswers g limit w e a
   code-answers w e = coded (machine-answers w e).1
 
--- a stage of a plan has an answer on each text: by its machine, or by its table where what is best is told
+-- a stage of a plan has an answer on each text: by its machine, or by its table where it tells what is best
 pub plan-answers : (p : Planned) (limit : ℕ) → IsMachineInRange p.machine.start p.machine.nodes p.machine.registers → IsTrimmed p.machine → IsTableFor p.telling p.machine p.table → AlwaysAnswers (λ q w e a. Gives q w e a) (record { machine = teller_of p; limit = limit })
 plan-answers p limit range trimmed has = by p.telling p.table has
   where

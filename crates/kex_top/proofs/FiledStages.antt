@@ -31,7 +31,7 @@ few-states P root n m t s d few =
     let more : suc n ≤ length t.states → ⊥ = λ lt. few ((same_states P root m s.kept n).more.1 (d.shapes, omega (arith, lt, count), d.different, d.each)) in
     let below = lt_of_not-le more in omega (arith, below)
 
--- the plan has a table that is its machine's, of so many states at most
+-- the plan has a table that is its machine's, of at most this many states
 pub record HasOwnTable (n : ℕ) (p : Planned) : Type 0 where
   pub table : Transducer
   pub is : p.table ≡ Some table

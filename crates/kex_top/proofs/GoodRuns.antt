@@ -212,7 +212,7 @@ whole_of (too_long lt g s) n = cc
 whole_of (cut_off le g h s) n = cc
 whole_of (whole le m) n = (le, m, refl)
 
--- so it is for a run, also where what is best is told
+-- so it is for a run, also where it tells what is best
 run_whole : (P : Grammar) (states : ℕ) (optimal : Bool) (root limit : ℕ) (w : List ℕ) (a : Answer) → StageGives (running states optimal) P limit root w true a → a.stop ≡ None → (length w ≤ limit) × Means P root w a.text × (a.ended ≡ true)
 run_whole P states false root limit w a h n = whole_of h n
 run_whole P states true root limit w a h n = whole_of h n

@@ -1,5 +1,5 @@
 -- What a pipe of stages says of what it was fed.
-use Rattle.std.proofs.Common.{◌≡◌, ℕ, ◌<◌, Bool, true, false, List, [], ◌∷◌, ◌++◌, ◌||◌, Option, Some, None, length, map, get_or, zero, suc, arith, refl, sym, ap, ap₂, subst, ◌∙◌, append-nil}
+use Rattle.std.proofs.Common.{◌≡◌, ℕ, ◌<◌, Bool, true, false, List, [], ◌∷◌, ◌++◌, ◌||◌, Option, Some, None, length, map, refl, sym, ap, ap₂, subst, ◌∙◌, append-nil}
 use Rattle.kex_model.specs.Answers.{Answer, Pipeline}
 use Rattle.kex_model.specs.Schedules.{StreamItem, Progress, has_end, Event, give, give_end, After, Settled}
 use Rattle.kex_pipe.specs.Events.{bytes_given, end_given}
@@ -21,7 +21,7 @@ use Rattle.kex_top.specs.declared.any_pipe.AnyPipe.TheVariants.{Rounds, Turns, R
 use Rattle.kex_top.specs.Answer.{Said}
 use Rattle.kex_top.specs.History.{StagesFed, History, bytes_passed, history_text, is_history_ended, IsFateOfStages, FeedsStages}
 use Rattle.kex_top.specs.Piped as piped
-use Rattle.kex_top.specs.Piped.{plans_of, any_in_hand, is_any_in_round, is_any_spent, AnyPipeStands, IsGiven, IsPipeSettled, IsWorkedOff, HasSaid, PipeStands}
+use Rattle.kex_top.specs.Piped.{plans_of, any_in_hand, is_any_in_round, is_any_spent, AnyPipeStands, IsPipeSettled, IsWorkedOff, HasSaid, PipeStands}
 use Rattle.kex_top.specs.PipelineLaws.{report-same}
 use Rattle.kex_top.specs.Pipelines.{StagesSay}
 use Rattle.kex_top.proofs.Schedules.{same-came, same-seats}

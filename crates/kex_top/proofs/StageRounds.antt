@@ -1,5 +1,5 @@
 -- Rounds give nothing, and each settles one stage more.
-use Rattle.std.proofs.Common.{◌≡◌, ℕ, zero, suc, ◌≤◌, ◌+◌, ◌-◌, take, drop, Bool, true, false, List, [], ◌∷◌, ◌++◌, ◌||◌, length, map, refl, sym, ap, ◌∙◌, arith, append-nil, append_assoc}
+use Rattle.std.proofs.Common.{◌≡◌, ℕ, zero, suc, ◌≤◌, ◌+◌, ◌-◌, take, drop, Bool, false, List, [], ◌∷◌, ◌++◌, ◌||◌, length, map, refl, sym, ap, ◌∙◌, arith, append-nil, append_assoc}
 use Rattle.kex_model.specs.Answers.{Answer}
 use Rattle.kex_model.specs.Schedules.{StreamItem, Progress, Event, give, Settled}
 use Rattle.kex_pipe.specs.Events.{bytes_given, end_given}
@@ -55,7 +55,7 @@ module _ {T : Type 0} (t : Ghosts T) where
         stands_for = next g.events g.stands_for;
       }
 
-  -- after some rounds so many stages have worked off all that came to them
+  -- after some rounds this many stages have worked off all that came to them
   pub record Rounding (i : ℕ) (ps : List t.Plan) (h : List Event) (taken : List ℕ) (pipe : Pipe T t) : Type 0 where
     pub events : List Event
     pub same_bytes : bytes_given events ≡ bytes_given h
@@ -102,7 +102,7 @@ take-take (suc n) zero xs le = absurd (omega arith)
 take-take (suc n) (suc m) [] le = refl
 take-take (suc n) (suc m) (x ∷ xs) le = ap (λ z. x ∷ z) (take-take n m xs (omega arith))
 
--- so many of what lies between a front and a longer one
+-- as many of what lies between a front and a longer one
 pub front-some : (xs : List ℕ) (n m count : ℕ) → count ≤ m - n → take n xs ++ take count (take (m - n) (drop n xs)) ≡ take (n + count) xs
 front-some xs n m count le =
     let e : n + count - n ≡ count = omega arith in

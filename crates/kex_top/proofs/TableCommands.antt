@@ -26,7 +26,7 @@ use Rattle.kex_top.specs.declared.status.Status.{Status}
 use Rattle.kex_top.proofs.FiledStages.{holds-program}
 use Rattle.kex_top.proofs.CallAnswers.{as-many-plans, begun, by_machines, by_plans, carried, carried-back, ran_alike, some-stage}
 
--- a file that is told of the program's text
+-- a file that is shown, of the program's text
 pub filed : (name : List ℕ) (states : ℕ) (texts : Option Texts) (reads : Option Reads) (text : List ℕ) (plans : Plans) (source sink : StreamChange) (s : Status) → IsTold (told_of texts name) text → IsCompiled (limits_to_check states) text plans → IsAsBefore source → (file : List ℕ) → Filed text (λ bytes. bytes ≡ file) → TellsBytes file sink s → CommandAnswers (ToCompile name states) texts reads source sink s
 filed name states texts reads text plans source sink s told c left file f tells =
     begun (ToCompile name states) texts reads source sink s (
@@ -39,7 +39,7 @@ filed name states texts reads text plans source sink s told c left file f tells 
     }
     )
 
--- a file that is told and good
+-- a file that is shown and good
 pub holds-stages : (told : ShelfText) (file : List ℕ) (ps : List Planned) → IsTold told file → length file ≤ most_bytes → IsGood file ps → HoldsStages told (map machine_of ps)
 holds-stages told file ps t short good = record { file = file; is_told = t; program = good.machines.program; holds = holds-program file ps short good; stages = good.machines.stages }
 

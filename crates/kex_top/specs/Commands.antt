@@ -53,7 +53,7 @@ calls_of (Some (ToCompile name states)) = record { takes = Some name; block = No
 calls_of (Some (ToExec name reach)) =
     record { takes = Some name; block = Some reach.block; writes = true }
 
--- What is told of what a command takes. A trial has a text of its own.
+-- What is shown of what a command takes. A trial has a text of its own.
 abbrev pub told_text : Option Texts → Asked → ShelfText
 told_text texts (ToStream mode name reach) = told_of texts name
 told_text texts (ToCheck name states) = told_of texts name
@@ -103,7 +103,7 @@ pub record Filed (text : List ℕ) (Told : List ℕ → Type 0) : Type 0 where
 
 -- What a command does with its program, which this text spells or this file holds, for each answer
 -- that comes after it has begun. A command on an input says what its program says of the bytes
--- read, or of each of their lines; a check, a trial and a compilation read nothing.
+-- read, or of each of their lines; the others read nothing.
 abbrev pub Performs : Asked → List ℕ → Grammar → Option Reads → StreamChange → StreamChange → Status
     → Type 0
 Performs (ToStream mode name reach) text P reads source sink status =
@@ -127,7 +127,7 @@ pub record StreamParses (IsProgram : Grammar → Type 0)
   pub parses : (P : Grammar) → IsProgram P
       → (said : Said) × says P input true said × (said.report ≡ None)
 
--- The input is one with which the command ends well. A check, a trial and a compilation have none.
+-- The input is one with which the command ends well, where it has one.
 abbrev pub InputIsGood : Asked → List ℕ → StreamChange → Type 0
 InputIsGood (ToStream mode name reach) text source =
     StreamParses (λ P. Spells text P) (λ P. SaysBy mode P reach.max_input) source

@@ -25,7 +25,7 @@ abbrev pub WorksWith : Taken → List ℕ → Grammar → Type 0
 WorksWith (a_text limits) text P = Accepts limits text P
 WorksWith a_table_file file P = HoldsProgram file P
 
--- The command worked with a program of the text that is told.
+-- The command worked with a program of the text that is shown.
 pub record CommandWorks (asked : Asked) (texts : Option Texts) (reads : Option Reads)
     (source sink : StreamChange) (status : Status) : Type 0 where
   pub text : List ℕ
@@ -76,7 +76,7 @@ pub record BreaksNoRule (asked : Asked) (texts : Option Texts) (shelf : ShelfCha
   pub readable : IsSome (calls_of (Some asked)).block → HasNotRisen source.before source.now
   pub writable : HasNotRisen sink.before sink.now
 
--- Nothing stands in the way of what the words ask for.
+-- Nothing is in the way of what the words ask for.
 abbrev pub IsComplete : Option Asked → Option Texts → ShelfChange → StreamChange → StreamChange
     → Type 0
 IsComplete None texts shelf source sink = ⊥

@@ -44,11 +44,11 @@ first_limit limit (p ∷ ps) = limit p
 abbrev pub stage_plans : ℕ → List Teller → List StagePlan
 stage_plans limit stages = map (λ t. record { machine = t; limit = limit }) stages
 
--- those of machines of which this is told
+-- those of machines whose stages tell this
 abbrev pub told_plans : Telling → ℕ → List Graph → List StagePlan
 told_plans k limit machines = stage_plans limit (tellers k machines)
 
--- those of machines of which what is agreed is told
+-- those of machines whose stages tell what is agreed
 abbrev pub agreed_plans : ℕ → List Graph → List StagePlan
 agreed_plans limit machines = told_plans telling.Agreed limit machines
 

@@ -1,4 +1,4 @@
--- Why a command has no program to begin with, and what is told of it.
+-- Why a command has no program to begin with, and what is shown of that.
 use Rattle.std.specs.Prelude.{◌≡◌, ◌⊎◌, ◌+◌, ◌≤◌, ℕ, false, List, length, take, ⊤}
 use Rattle.kex_code.specs.Codes.{Begins}
 use Rattle.kex_compile.specs.Compiled.{Accepts, IsCompiled, IsRefused}
@@ -95,11 +95,11 @@ IsFileStartOf file why start.Memory = MayWantMemory why
 IsFileStartOf file why (start.Refused r) = IsFileRefusalOf file why r
 IsFileStartOf file why _ = ⊥
 
--- What is told is past what a text of this kind may have.
+-- What is shown is past what a text of this kind may have.
 abbrev pub IsTooLong : TextKind → ShelfText → Refusal → Type 0
 IsTooLong kind told r = IsPast told (most_taken kind) × (r ≡ broken (rule_past kind))
 
--- A text that is told breaks this rule.
+-- A text that is shown breaks this rule.
 pub record IsBrokenRule (limits : Limits) (told : ShelfText) (r : Refusal) : Type 0 where
   pub text : List ℕ
   pub is_told : IsTold told text
@@ -107,7 +107,7 @@ pub record IsBrokenRule (limits : Limits) (told : ShelfText) (r : Refusal) : Typ
   pub is_refused : IsRefused limits text rule
   pub is_shown : IsRefusalOf text rule r
 
--- A table file that is told is refused so.
+-- A table file that is shown is refused so.
 pub record IsBrokenFile (told : ShelfText) (r : Refusal) : Type 0 where
   pub file : List ℕ
   pub is_told : IsTold told file
@@ -119,11 +119,11 @@ abbrev pub IsBroken : Taken → ShelfText → Refusal → Type 0
 IsBroken (a_text limits) told r = IsBrokenRule limits told r
 IsBroken a_table_file told r = IsBrokenFile told r
 
--- What is told is past the limit, or breaks the rule.
+-- What is shown is past the limit, or breaks the rule.
 abbrev pub IsRefusedFor : Taken → ShelfText → Refusal → Type 0
 IsRefusedFor taken told r = IsTooLong (text_kind taken) told r ⊎ IsBroken taken told r
 
--- A text that is told has these plans.
+-- A text that is shown has these plans.
 pub record HasPlans (limits : Limits) (told : ShelfText) (plans : Plans) : Type 0 where
   pub text : List ℕ
   pub is_told : IsTold told text
@@ -140,7 +140,7 @@ pub record HoldsProgram (file : List ℕ) (P : Grammar) : Type 0 where
   pub good : IsGood file plans
   pub accepts : Accepts limits_in_file good.text P
 
--- A table file that is told holds a program, whose stages have these machines.
+-- A table file that is shown holds a program, whose stages have these machines.
 pub record HoldsStages (told : ShelfText) (machines : List Graph) : Type 0 where
   pub file : List ℕ
   pub is_told : IsTold told file
@@ -155,6 +155,6 @@ IsUntaken IsFor start.Memory = ⊤
 IsUntaken IsFor (start.Refused r) = IsFor r
 IsUntaken IsFor start.Usage = ⊥
 
--- What is told has no plans.
+-- What is shown has no plans.
 abbrev pub HasNone : Taken → ShelfText → StartError → Type 0
 HasNone taken told why = IsUntaken (IsRefusedFor taken told) why

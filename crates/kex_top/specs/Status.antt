@@ -1,4 +1,4 @@
--- What is told of a status.
+-- What a status says.
 use Rattle.std.specs.Prelude.{ℕ, Bool, true, false}
 use Rattle.kex_pipe.specs.declared.turn.Why.{Why}
 use Rattle.kex_pipe.specs.declared.turn.Why.TheVariants.{Byte, End, Limit}

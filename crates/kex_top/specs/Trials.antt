@@ -29,7 +29,7 @@ abbrev pub rolling_sum : ℕ → List ℕ → ℕ
 rolling_sum h [] = h
 rolling_sum h (b ∷ bs) = rolling_sum ((h * 31 + b) % 2 ^ 32) bs
 
--- a count that stands still at its last value
+-- a count that stays at its last value
 abbrev pub saturated_count : ℕ → ℕ
 saturated_count n = min n (2 ^ 64 - 1)
 
