@@ -93,7 +93,7 @@ stretches_more t x met state s h is = record {
 pub courses_in_range : (t : Transducer) (x : List ℕ) (done : ℕ) → IsTable t → length x ≡ done → (q : ℕ) (c : Course) → slice_get (courses_from t t.states 0 x) q ≡ Some c → IsCourseOf done (length t.states) c
 courses_in_range t x done table e q c at = subst (λ n. IsCourseOf n (length t.states) c) e (subst (λ n. IsCourseOf (length x) n c) (courses_count t table t.states 0 x) ((in_range t x table).each q c at))
 
--- a state's course stands behind those of the states before it
+-- a state's course comes after those of the states before it
 pub courses_next : (t : Transducer) (x : List ℕ) (q : ℕ) (s : Stretch) → IsTable t → q < length t.states → IsStretch t x q s → take q (courses_from t t.states 0 x) ++ course_in s ∷ [] ≡ take (q + 1) (courses_from t t.states 0 x)
 courses_next t x q s table lt h =
     let all = courses_from t t.states 0 x in

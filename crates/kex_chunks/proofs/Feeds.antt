@@ -1,4 +1,4 @@
--- A runner that is fed pieces one behind the other.
+-- A runner that is fed pieces one after the other.
 use Rattle.std.proofs.Common.{◌≡◌, ℕ, ◌+◌, ◌-◌, ◌<◌, ◌≤◌, ◌⊎◌, inl, inr, ⊎_elim, List, [], ◌∷◌, ◌++◌, Some, length, take, drop, refl, sym, ap, ap₂, subst, ◌∙◌, append_assoc, append-nil, arith}
 use Rattle.std.proofs.lemmas.List.{length-drop, take-append-drop, take_all}
 use Rattle.kex_code.specs.declared.symbol.Symbol.{Symbol}
@@ -10,7 +10,7 @@ stands : (answer : Fed) (r : Running) (w : List ℕ) (c : List Symbol) → IsRun
 stands On r w c h = h.1
 stands Dead r w c h = h.1
 
--- one piece behind the other is one piece
+-- one piece after the other is one piece
 pub feeds_more : (answer : Fed) (old mid new : Running) (x y : List ℕ) (before between after : List Symbol) → RunnerFeeds On old mid x before between → RunnerFeeds answer mid new y between after → RunnerFeeds answer old new (x ++ y) before after
 feeds_more answer old mid new x y before between after f g = record {
   more = f.more ++ g.more;

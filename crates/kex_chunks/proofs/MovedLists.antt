@@ -34,7 +34,7 @@ same_over regs regs' b (Put s ∷ xs) h = ap (λ z. Put s ∷ z) (same_over regs
 same_over regs regs' b (Input ∷ xs) h = ap (λ z. Put (Symbol.Byte b) ∷ z) (same_over regs regs' b xs h)
 same_over regs regs' b (Old i ∷ xs) h = ap₂ (λ y z. y ++ z) (h i (inl refl)) (same_over regs regs' b xs (λ j k. h j (inr k)))
 
--- the first part is moved, and the others are put behind it
+-- the first part is moved, and the others are put after it
 module _ (regs mid : List (List Part)) (b : ℕ) (p : Part) (rest : List Part) (once : Different (olds (p ∷ rest))) (others : (i : ℕ) → (IsAmong (olds (p ∷ [])) i → ⊥) → get_or mid i [] ≡ get_or regs i []) where
   front : olds (p ∷ rest) ≡ olds (p ∷ []) ++ olds rest
   front = olds-append (p ∷ []) rest
@@ -116,7 +116,7 @@ unchanged_at f zero (x ∷ xs) d lt = refl
 unchanged_at f (suc i) [] d lt = absurd (omega arith)
 unchanged_at f (suc i) (x ∷ xs) d lt = unchanged_at f i xs d (omega arith)
 
--- what stands in a list in which one item was set
+-- what is in a list in which one item was set
 pub set_there : {A : Type 0} (xs : List A) (i q : ℕ) (a y : A) → slice_get (set xs i a) q ≡ Some y → ((q ≡ i) × (y ≡ a)) ⊎ (slice_get xs q ≡ Some y)
 set_there [] i q a y e = inr e
 set_there (x ∷ xs) zero zero a y e = let same : y ≡ a = cc in inl (refl, same)

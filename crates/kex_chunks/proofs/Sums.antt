@@ -1,4 +1,4 @@
--- Summaries that are put one behind the other.
+-- Summaries that are put one after the other.
 use Rattle.std.proofs.Common.{◌≡◌, ℕ, zero, suc, ◌+◌, ◌<◌, ◌≤◌, List, [], ◌∷◌, ◌++◌, inl, inr, ⊎_elim, Option, Some, None, length, get_or, map, take, drop, refl, sym, ap, ap₂, subst, ◌∙◌, append_assoc, append-nil, arith}
 use Rattle.std.specs.Prelude.{slice_get}
 use Rattle.std.proofs.lemmas.Option.{slice_get_read}
@@ -19,7 +19,7 @@ use Rattle.kex_sst.proofs.Courses.{determined, some_below}
 use Rattle.kex_chunks.specs.Parts.{AreSummaries}
 use Rattle.kex_chunks.proofs.Alongs.{item_at}
 
--- the courses of a text and of a stretch behind it
+-- the courses of a text and of a stretch after it
 pub courses_more : (t : Transducer) (x y : List ℕ) (done : ℕ) → IsTable t → length x ≡ done → map (λ c. then_of done (courses_from t t.states 0 y) c) (courses_from t t.states 0 x) ≡ courses_from t t.states 0 (x ++ y)
 courses_more t x y done table e =
     ap (λ n. map (λ c. then_of n (courses_from t t.states 0 y) c) (courses_from t t.states 0 x)) (sym e)
@@ -50,7 +50,7 @@ then_written u v h k = record {
       substitute_written u.regs r.0 z h.regs (k.regs r.0 r.1) (subst (λ y. IsAmong y z) (sym r.2) j);
 }
 
--- what stands at a place of a list that was mapped
+-- what is at a place of a list that was mapped
 map_there : {A B : Type 0} (f : A → B) (xs : List A) (i : ℕ) (y : B) → slice_get (map f xs) i ≡ Some y → (x : A) × (slice_get xs i ≡ Some x) × (y ≡ f x)
 map_there f [] i y e = let bad : ⊥ = cc in absurd bad
 map_there f (x ∷ xs) zero y e = let same : f x ≡ y = cc in (x, refl, sym same)
@@ -74,7 +74,7 @@ module _ (s r : Sum) (many : length s.entries ≡ length r.entries) (one : IsSum
       let there = item_at r.entries q (subst (λ z. q < z) many h.0) in
       by_in_range s.bytes u (slice_get r.entries q) there.0 there.1 (other.each q there.0 there.1) h.1
 
-  -- two summaries of one table, one behind the other, are in range
+  -- two summaries of one table, one after the other, are in range
   pub then_in_range : IsSum (then_sum s r)
   then_in_range = record {
     each = λ q c at.
@@ -122,7 +122,7 @@ part_at t piece at k sums s d le lt e h =
       rest = subst (λ w. AreSummaries t w (drop (k + 1) sums)) (sym rest) here.4;
     }
 
--- behind the last part is the end of the piece
+-- after the last part comes the end of the piece
 pub no_more : (t : Transducer) (piece : List ℕ) (at k : ℕ) (sums : List (Option Sum)) → length sums ≤ k → AreSummaries t (drop at piece) (drop k sums) → take at piece ≡ piece
 no_more t piece at k sums le h =
     let none : drop k sums ≡ [] = drop_of_length-le sums le in

@@ -12,7 +12,7 @@ abbrev pub course_in : Stretch → Course
 course_in (Stops n) = Gone n
 course_in (Leads q u) = Goes q u
 
--- where it stops, it stops before so many bytes, of which so many stand before it
+-- a course that stops does so before `bytes` bytes, with the `done` bytes before it
 abbrev pub StopsBefore : ℕ → ℕ → Course → Type 0
 StopsBefore bytes done (Gone n) = done + n < bytes
 StopsBefore bytes done (Goes q u) = Unit {0}

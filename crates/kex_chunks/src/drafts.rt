@@ -13,7 +13,7 @@ use std::alloc::Global;
 use std::marker::Model;
 use std::mem;
 
-/// An update that updates are put behind, each with the byte that it reads.
+/// An update that others are put after, each with the byte that it reads.
 #[derive(Drop)]
 pub struct UpdateDraft {
     alloc: Global,
@@ -31,7 +31,7 @@ impl Model for UpdateDraft {
     ghost view = { λ d. record { out = d.out; regs = d.regs.items } };
 }
 
-// Parts are put behind a list.
+// Parts are put after a list.
 fn push_all(list: &mut Parts, parts: &[Part]) -> Result<(), Memory>
     ensures { OnOk result (list.new ≡ list.old ++ parts.now) }
 {
@@ -41,7 +41,7 @@ fn push_all(list: &mut Parts, parts: &[Part]) -> Result<(), Memory>
     Ok(())
 }
 
-// What a part stands for is put behind a list: for an old register, a copy of what it was given.
+// What a part stands for is put after a list: for an old register, a copy of what it was given.
 fn add(list: &mut Parts, regs: &[Parts], part: Part, byte: u8) -> Result<(), Memory>
     ensures { OnOk result (list.new
         ≡ list.old ++ substitute regs.now (read_parts byte (part ∷ []))) }
@@ -56,7 +56,7 @@ fn add(list: &mut Parts, regs: &[Parts], part: Part, byte: u8) -> Result<(), Mem
     }
 }
 
-// What parts stand for is put behind a list.
+// What parts stand for is put after a list.
 fn add_all(list: &mut Parts, regs: &[Parts], parts: &[Part], byte: u8) -> Result<(), Memory>
     ensures { OnOk result (list.new ≡ list.old ++ substitute regs.now (read_parts byte parts.now)) }
 {
@@ -75,7 +75,7 @@ fn list_of(alloc: Global, symbol: Symbol) -> Result<Parts, Memory>
     Ok(list)
 }
 
-// What a part stands for, as a list: for an old register that which it was given, which is taken
+// What a part stands for, as a list: for an old register the list that it was given, which is taken
 // away.
 fn take(alloc: Global, regs: &mut [Parts], part: Part, byte: u8) -> Result<Parts, Memory>
     ensures list { IfOk result (λ list. list ≡ substitute regs.old (read_parts byte (part ∷ []))) }
@@ -95,7 +95,7 @@ fn take(alloc: Global, regs: &mut [Parts], part: Part, byte: u8) -> Result<Parts
     }
 }
 
-// What parts stand for, as a list. What an old register was given is taken away where it stands
+// What parts stand for, as a list. What an old register was given is taken away where it comes
 // first, so that a list which only grows is never copied.
 fn fill(alloc: Global, regs: &mut [Parts], parts: &[Part], byte: u8) -> Result<Parts, Memory>
     requires { Different (olds parts.now) }
@@ -132,7 +132,7 @@ fn fill_all(
 }
 
 impl UpdateDraft {
-    /// Nothing is passed on, and each of so many registers is itself.
+    /// Nothing is passed on, and each register is itself.
     pub fn new(alloc: Global, registers: u32) -> Result<UpdateDraft, Memory>
         ensures { IfOk result (λ d. d ≡ identity registers) }
     {
@@ -150,7 +150,7 @@ impl UpdateDraft {
         })
     }
 
-    /// Puts an update behind it, with the byte that it reads.
+    /// Puts an update after it, with the byte that it reads.
     pub fn push(&mut self, update: &Update, byte: u8) -> Result<(), Memory>
         requires { Different (olds_in update.now.regs) }
         ensures { OnOk result (self.new ≡ then_update self.old (with_read byte update.now)) }

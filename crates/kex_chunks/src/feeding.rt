@@ -42,7 +42,7 @@ fn work_one<G: Gate>(
     Ok(())
 }
 
-// Of so many bytes those of the first parts: any two parts differ by one byte at most.
+// The bytes of the first parts: any two parts differ by one byte at most.
 fn share_of(bytes: usize, parts: usize, first: usize) -> usize
     requires { 0 < parts }
     ensures { result ≤ bytes }
@@ -196,7 +196,7 @@ fn apply_all(
 /// runner goes along them in order; from the begin of a part in which the table stops on it is fed
 /// plainly. Part k, counted from 1, enters the gate as k before its work and leaves it after.
 ///
-/// By a table of more than 64 states, or behind a byte that was refused, all is fed plainly, and
+/// By a table of more than 64 states, or after a byte that was refused, all is fed plainly, and
 /// nothing enters the gate. After `Memory` the code may have a part of what the bytes let it pass
 /// on, and the runner is only dropped.
 pub fn feed_many<R: Threads + Sync, G: Gate + Sync>(

@@ -14,7 +14,7 @@ use kex_sst::table::Table;
 use std::alloc::Global;
 use std::marker::Model;
 
-/// A text is left behind so many bytes, or leads to a state by an update, which courses share.
+/// A text is left after a number of bytes, or leads to a state by an update, which courses share.
 #[derive(Drop)]
 pub enum Stretch {
     Stops(u64),
@@ -117,7 +117,7 @@ impl<'t> Stretches<'t> {
         Ok(stretch)
     }
 
-    /// A course of so many bytes, and behind it the text.
+    /// A course of `done` bytes, and after them the text.
     pub fn behind(&mut self, done: u64, course: Course) -> Result<Course, Memory>
         requires range { IsCourseOf done (length self.old.table.states) course }
         requires room { done + length self.old.text < 2 ^ 64 }
@@ -135,7 +135,7 @@ impl<'t> Stretches<'t> {
     }
 }
 
-// A course that goes, of so many bytes, and behind it a stretch.
+// A course of `done` bytes that goes, and after them a stretch.
 fn then_stretch(series: Series, done: u64, stretch: Stretch) -> Result<Course, Memory>
     requires { StopsBefore (2 ^ 64) done (course_in stretch) }
     ensures { IfOk result (λ c. c ≡ then_by (Some (course_in stretch)) done series) }

@@ -30,7 +30,7 @@ fn courses_of(alloc: Global, table: &Table, text: &[u8]) -> Result<Vec<Course>, 
     Ok(all)
 }
 
-// Each course, of so many bytes, goes on along a text.
+// Each course, of `done` bytes, goes on along a text.
 fn go_on(
     alloc: Global,
     table: &Table,
@@ -54,7 +54,7 @@ fn go_on(
 
 /// What a table does along a text, from each of its states.
 ///
-/// Each stretch of the text is as long as what stands before it, and courses that have met by its
+/// Each stretch of the text is as long as what comes before it, and courses that have met by its
 /// begin go along it once. So a course has about as many updates as the length has binary digits.
 pub fn chunk(alloc: Global, table: &Table, piece: &[u8]) -> Result<Summary, Memory>
     ensures { IfOk result (λ s. s ≡ sum_of table.now piece.now) }
@@ -69,7 +69,7 @@ pub fn chunk(alloc: Global, table: &Table, piece: &[u8]) -> Result<Summary, Memo
     Ok(Summary::new(piece.len() as u64, courses))
 }
 
-// So many bytes and their updates, and behind them the course of another text.
+// Bytes and their updates, and after them the course of another text.
 fn joined(alloc: Global, bytes: u64, series: &Series, other: &Course) -> Result<Course, Memory>
     requires { StopsBefore (2 ^ 64) bytes other.now }
     ensures { IfOk result (λ c. c ≡ then_by (Some other.now) bytes series.now) }
@@ -80,7 +80,7 @@ fn joined(alloc: Global, bytes: u64, series: &Series, other: &Course) -> Result<
     }
 }
 
-// A course of so many bytes, and behind it what another text does from its state.
+// A course of `bytes` bytes, and after it what another text does from its state.
 fn composed(alloc: Global, bytes: u64, course: &Course, other: &Summary) -> Result<Course, Memory>
     requires range { IsCourseOf bytes (length other.now.entries) course.now }
     requires room { bytes + other.now.bytes < 2 ^ 64 }
@@ -95,7 +95,7 @@ fn composed(alloc: Global, bytes: u64, course: &Course, other: &Summary) -> Resu
     }
 }
 
-/// The summary of two texts, one behind the other, from theirs.
+/// The summary of two texts, one after the other, from theirs.
 ///
 /// The two are of one table: they have as many entries.
 pub fn compose(alloc: Global, one: &Summary, other: &Summary) -> Result<Summary, Memory>

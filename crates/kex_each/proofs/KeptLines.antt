@@ -1,4 +1,4 @@
--- The answer to a line rests on no byte past the one behind the limit.
+-- The answer to a line rests on no byte past the one after the limit.
 use Rattle.std.proofs.Common.{◌≡◌, ◌≤◌, ◌<◌, ◌+◌, ℕ, zero, suc, Bool, true, List, [], ◌∷◌, length, take, refl, ap, subst, ◌∙◌, arith}
 use Rattle.kex_model.specs.Answers.{Answer, Answers, LongestGood, bad_byte, too_long, cut_off, whole, still_open}
 use Rattle.kex_machine.specs.Answers.{HasRun, IsViableFor, MeansByRun}

@@ -106,7 +106,7 @@ read_line w v old mid new before after none kept begun keep put empty fresh same
     none_kept zero = refl
     none_kept (suc n) = refl
 
--- a piece behind another
+-- a piece after another
 pub reads_more : (w v u : List ℕ) (mid new : BegunLine) (before between after : List (List ℕ)) → new.keep ≡ mid.keep → ReadsLines w v mid before between → ReadsLines (w ++ v) u new between after → ReadsLines w (v ++ u) new before after
 reads_more w v u mid new before between after keep one two =
     let line = begun_behind [] w in

@@ -7,7 +7,7 @@ use Rattle.kex_stage.specs.Plans.{Planned, teller_of}
 use Rattle.kex_stage.specs.Stages.{StagePlan, Gives}
 use Rattle.kex_words.specs.Lines.{rejected_line, too_long_line}
 
--- the line that is told of a report
+-- the line that tells of a report
 abbrev pub told_of_stop : Why → ℕ → ℕ → List ℕ
 told_of_stop at_byte stage at = rejected_line stage at false
 told_of_stop at_end stage at = rejected_line stage at true

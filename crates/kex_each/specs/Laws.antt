@@ -16,7 +16,7 @@ pub record BeginsLines (v u : List ℕ) (e : Bool) : Type 0 where
   pub more : List (List ℕ)
   pub front : lines_of (v ++ u) e ≡ lines_of v false ++ more
 
--- the answer to so much of a line is that to the line
+-- the answer to that much of a line is that to the line
 abbrev pub IsKeptEnough : Type 0
 IsKeptEnough = (keep : ℕ) (ps : List StagePlan) → IsEnough keep ps → (lines texts : List (List ℕ))
     → PlansAnswerLines ps (fronts_of keep lines) texts → PlansAnswerLines ps lines texts

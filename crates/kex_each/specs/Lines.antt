@@ -14,7 +14,7 @@ lines_behind line [] = []
 lines_behind line (b ∷ w) =
     if is_line_feed b then line ∷ lines_behind [] w else lines_behind (line ++ b ∷ []) w
 
--- the line that stands unfinished after a text
+-- the line that is unfinished after a text
 abbrev pub begun_behind : List ℕ → List ℕ → List ℕ
 begun_behind line [] = line
 begun_behind line (b ∷ w) =
@@ -27,7 +27,7 @@ has_some (b ∷ w) = true
 abbrev pub line_if_some : List ℕ → List (List ℕ)
 line_if_some line = if has_some line then line ∷ [] else []
 
--- the lines of a text: what stands between line feeds, without them; at its end (true) also an
+-- the lines of a text: what is between line feeds, without them; at its end (true) also an
 -- unfinished one, if it isn't empty
 abbrev pub lines_of : List ℕ → Bool → List (List ℕ)
 lines_of w false = lines_behind [] w

@@ -1,13 +1,13 @@
 -- Texts that are kept one after the other.
 use Rattle.std.specs.Prelude.{◌≡◌, ◌≤◌, ◌-◌, ℕ, zero, suc, List, [], ◌∷◌, take, drop}
 
--- what stands up to each end, from this place on
+-- what comes up to each end, from this place on
 abbrev pub cut_at : ℕ → List ℕ → List ℕ → List (List ℕ)
 cut_at from [] bytes = []
 cut_at from (end ∷ ends) bytes =
     take (end - from) bytes ∷ cut_at end ends (drop (end - from) bytes)
 
--- no end stands before the one before it, and the last stands here
+-- no end comes before the one before it, and the last is here
 abbrev pub AreEnds : ℕ → List ℕ → ℕ → Type 0
 AreEnds from [] last = from ≡ last
 AreEnds from (end ∷ ends) last = (from ≤ end) × AreEnds end ends last

@@ -176,7 +176,7 @@ module _ {T : Type 0} (t : Ghosts T) where
     pub here : AreBeside room last from
     pub end : left ≡ 0 → IsLast last
 
-  -- a stage more behind stages that have rings
+  -- one stage more after stages that have rings
   pub rings-more : (ss : List (RingSeat T t)) (s : RingSeat T t) → All (λ z. IsSome z.to) ss → HaveRings t (ss ++ s ∷ [])
   rings-more [] s all = tt
   rings-more (a ∷ []) s all = (all zero a (omega arith), tt)

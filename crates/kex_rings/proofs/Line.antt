@@ -22,7 +22,7 @@ use Rattle.kex_rings.proofs.StageTurns.{Steps, steps-after, fed-next}
 pub same-rest : {A : Type 0} (front xs ys : List A) → front ++ xs ≡ front ++ ys → xs ≡ ys
 same-rest front xs ys e = sym (drop-append_seam front xs) ∙ ap (λ z. drop (length front) z) e ∙ drop-append_seam front ys
 
--- nothing is moved behind an end
+-- nothing is moved past an end
 pub may-move : (front : List StreamItem) (to : Inbox) (rest : List StreamItem) → IsWhole (front ++ (waiting_items to ++ rest)) → (to.ended ≡ false) ⊎ (rest ≡ [])
 may-move front to [] whole = inr refl
 may-move front to (y ∷ ys) (w, ended, whole) =
@@ -41,7 +41,7 @@ module _ {T : Type 0} (t : Ghosts T) where
   came-front came ahead (p ∷ ps) (s ∷ ss) (x ∷ xs) b taken h = h.0 ∙ sym (append_assoc x.taken (lies_before t s) ahead)
   came-front came ahead ps ss xs b taken h = absurd h
 
-  -- as a line, with what the last stage has written behind the output
+  -- as a line, with what the last stage has written after the output
   abbrev pub Open : List StreamItem → List StreamItem → List t.Plan → List (RingSeat T t) → List Progress → Inbox → List ℕ → Type 0
   Open came ahead [] [] [] b taken = came ≡ map byte taken ++ (waiting_items b ++ ahead)
   Open came ahead (p ∷ ps) (s ∷ ss) (x ∷ xs) b taken = (came ≡ x.taken ++ (lies_before t s ++ ahead)) × (out : List StreamItem) × Sits t p s.seat.staged x out × Open out (waiting_items s.seat.outbox) ps ss xs b taken
@@ -106,7 +106,7 @@ module _ {T : Type 0} (t : Ghosts T) where
   ring-line room came ahead came' ahead' more (p ∷ ps) (s ∷ ss) (s' ∷ ss') (x ∷ xs) b taken [] h is whole work = absurd work
   ring-line room came ahead came' ahead' more ps ss ss' xs b taken cs h is whole work = absurd h
 
-  -- what the last stage has written goes behind the output in hand
+  -- what the last stage has written goes after the output in hand
   pub out-line : (came ahead : List StreamItem) (ps : List t.Plan) (front : List (RingSeat T t)) (s : RingSeat T t) (new : List (RingSeat T t)) (xs : List Progress) (b b' : Inbox) (taken : List ℕ) (c : CarriedOut t front s b new b') → IsWhole came → Open came ahead ps (front ++ s ∷ []) xs b taken → RingLine t came ahead ps (front ++ c.s' ∷ []) xs b' taken
   out-line came ahead (p ∷ []) [] s new (x ∷ []) b b' taken c whole h =
       let s' = c.s' in

@@ -48,13 +48,13 @@ module _ {A P : Type 0} where
       cases (inl none) = omega (arith, ap length s.parts, length-append (items_as s.more) (waiting_items new), length-map s.more item_as, none)
       cases (inr full) = omega (arith, s.free, full)
 
--- a list behind a front of it
+-- a list is a front of it and what comes after that
 behind : {A : Type 0} (n : ℕ) (xs ys zs : List A) → xs ++ ys ≡ take n zs → zs ≡ xs ++ drop (length xs) zs
 behind n xs ys zs e =
     let whole : zs ≡ xs ++ (ys ++ drop n zs) = sym (take-append-drop n zs) ∙ ap (λ z. z ++ drop n zs) (sym e) ∙ append_assoc xs ys (drop n zs) in
     whole ∙ ap (λ z. xs ++ z) (sym (ap (λ z. drop (length xs) z) whole ∙ drop-append_seam xs (ys ++ drop n zs)))
 
--- what is left behind the items that went, of those that were offered
+-- what is left after the items that went, of those that were offered
 pub run-cut : (n : ℕ) (mid new : Inbox) (went left run : List Item) → items_as run ≡ take n (waiting_items mid) → went ++ left ≡ run → unread_bytes new ≡ drop (length went) (unread_bytes mid) → new.ended ≡ (mid.ended && not (nat_lt (length (unread_bytes mid)) (length went))) → waiting_items mid ≡ items_as went ++ waiting_items new
 run-cut n mid new went left run offered parts bytes end =
     let rest : waiting_items new ≡ drop (length went) (waiting_items mid) = ap₂ items_of bytes end ∙ sym (drop-items (length went) (unread_bytes mid) mid.ended) in

@@ -97,7 +97,7 @@ module _ {T : Type 0} (t : Ghosts T) where
   steps-last m s s2 s' made made' takes staged inbox none moves (p ∷ ps) came [] front whole h = absurd h
   steps-last m s s2 s' made made' takes staged inbox none moves [] came xs front whole h = absurd h
 
-  -- one with another stage behind it has
+  -- one with another stage after it has
   pub steps-next : (m : ℕ) (s s2 s' n n' : Seated T t) (ss : List (Seated T t)) (made : Inbox) → Takes t m s s2 → s'.staged ≡ s2.staged → s'.inbox ≡ s2.inbox → waiting_items s'.outbox ≡ [] → n'.staged ≡ n.staged → n'.outbox ≡ n.outbox → MovesFrom s2.outbox n.inbox n'.inbox → StageSteps t 0 m (s ∷ n ∷ ss) made (s' ∷ n' ∷ ss) made
   steps-next m s s2 s' n n' ss made takes staged inbox none n_staged n_outbox moves (p ∷ q ∷ ps) came (x ∷ z ∷ xs) front whole h =
       let y = more_taken m came x in

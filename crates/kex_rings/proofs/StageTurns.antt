@@ -29,7 +29,7 @@ same-bytes h k cs = bytes_given-append h (turns_from k cs) ∙ ap (λ z. bytes_g
 pub same-end : (h : List Event) (k : ℕ) (cs : List ℕ) → end_given (h ++ turns_from k cs) ≡ end_given h
 same-end h k cs = end_given-append h (turns_from k cs) ∙ ap (λ z. end_given h || z) (turns-end k cs) ∙ or-not (end_given h)
 
--- the items that came next, so many
+-- the items that came next, by their count
 pub fed-next : (count : ℕ) (came got rest : List StreamItem) (x : Progress) → came ≡ (x.taken ++ got) ++ rest → count ≡ length got → fed_more got x ≡ more_taken count came x
 fed-next count came got rest x is number =
     ap (λ z. record { taken = x.taken ++ z; turned = true })

@@ -1,4 +1,4 @@
--- The ends of rings that a stage has: none before the first stage, none behind the last.
+-- The ends of rings that a stage has: none before the first stage, none after the last.
 use Rattle.std.specs.Prelude.{◌≡◌, ℕ, ◌++◌, List, [], Option, Some, None}
 use Rattle.std.proofs.Common.{Global}
 use Rattle.rtrb.specs.Ring.{sent, known_free, received, known_items, producer_capacity, IsPair}

@@ -19,7 +19,7 @@ turns_from k (c ∷ cs) = turn (suc k) c ∷ turns_from (suc k) cs
 
 module _ {T : Type 0} (t : Ghosts T) where
   -- each stage sits in its seat; what came to it is what it has taken, then what lies before it,
-  -- and then what the stage before it has not sent yet; behind the last stage, what was taken from
+  -- and then what the stage before it has not sent yet; after the last stage, what was taken from
   -- the output and then what is in hand
   abbrev pub RingLine : List StreamItem → List StreamItem → List t.Plan → List (RingSeat T t)
       → List Progress → Inbox → List ℕ → Type 0
@@ -48,12 +48,12 @@ module _ {T : Type 0} (t : Ghosts T) where
       × RingLine came [] ps ss' ys b' taken × Settled t.gives came ps ys
 
   -- each neighbours' ends of the ring between them are so; before the first one is this end, and
-  -- behind the last one none
+  -- after the last one none
   abbrev pub Joined : (Giver → Taker → Type 0) → Giver → List (RingSeat T t) → Type 0
   Joined R to [] = IsLast to
   Joined R to (s ∷ ss) = R to s.from × Joined R s.to ss
 
-  -- each stage but the last has a ring behind it
+  -- each stage but the last has a ring after it
   abbrev pub HaveRings : List (RingSeat T t) → Type 0
   HaveRings [] = Unit {0}
   HaveRings (s ∷ []) = Unit {0}

@@ -29,7 +29,7 @@ pub record IsHeldBack (before after : List schedule.StreamItem) (popped more : L
   pub rest : before ≡ items_as more ++ after
 
 module _ {T : Type 0} (t : Ghosts T) where
-  -- what lies before the stage: in its inbox, and behind that in its ring
+  -- what lies before the stage: in its inbox, and after that in its ring
   abbrev pub lies_before : RingSeat T t → List schedule.StreamItem
   lies_before s = waiting_items s.seat.inbox ++ items_as (seen_in s.from)
 
@@ -38,7 +38,7 @@ module _ {T : Type 0} (t : Ghosts T) where
   found_count None inbox = length (waiting_items inbox)
   found_count (Some c) inbox = length (known_items c)
 
-  -- what is not sent yet: all that the stage has written and the ring behind it didn't take. Behind
+  -- what is not sent yet: all that the stage has written and the ring after it didn't take. After
   -- the last stage there is none
   abbrev pub unsent_of : Giver → Inbox → List schedule.StreamItem
   unsent_of None outbox = []
@@ -50,8 +50,8 @@ module _ {T : Type 0} (t : Ghosts T) where
   abbrev pub unsent_items : RingSeat T t → List schedule.StreamItem
   unsent_items s = unsent_of s.to s.seat.outbox
 
-  -- a stage that sits at x was fed so many of what lay in its inbox and of what came out of its
-  -- ring; what it wrote was sent or lies in its outbox, in order
+  -- a stage that sits at x was fed `count` items of what lay in its inbox and of what came out of
+  -- its ring; what it wrote was sent or lies in its outbox, in order
   pub record FedBy (p : t.Plan) (x : Progress) (front : List schedule.StreamItem)
       (s s' : RingSeat T t) (popped more : List Item) (count : ℕ) : Type 0 where
     pub got : List schedule.StreamItem
@@ -68,7 +68,7 @@ module _ {T : Type 0} (t : Ghosts T) where
       → Sits t p s.seat.staged x out → out ≡ front ++ waiting_items s.seat.outbox
       → FedBy p x front s s' popped more count
 
-  -- looks, in which the stage took so many items
+  -- looks, in which the stage took `count` items
   pub record Looks (room : ℕ) (s s' : RingSeat T t) (count : ℕ) : Type 0 where
     pub same_from : SameTaker s.from s'.from
     pub same_to : SameGiver s.to s'.to
@@ -98,7 +98,7 @@ module _ {T : Type 0} (t : Ghosts T) where
     pub most : min (length (unsent_items s)) (free_in s.to) ≤ length more
     pub free : free_in s.to ≤ free_in s'.to + length more
 
-  -- what it finds lies in the inbox; so much of that is to be taken
+  -- what it finds lies in the inbox; `count` items of that are to be taken
   pub record FindsIn (room : ℕ) (s s' : RingSeat T t) (count : ℕ) : Type 0 where
     pub same_from : SameTaker s.from s'.from
     pub same_to : s'.to ≡ s.to
@@ -146,7 +146,7 @@ module _ {T : Type 0} (t : Ghosts T) where
     pub same_to : n'.to ≡ n.to
     pub beside : (room : ℕ) → ArePaired room s.to n.from → AreBeside room s'.to n'.from
 
-  -- what the last stage had written lies behind what was in hand
+  -- what the last stage had written comes after what was in hand
   pub record CarriedOut (front : List (RingSeat T t)) (s : RingSeat T t) (b : Inbox)
       (new : List (RingSeat T t)) (b' : Inbox) : Type 0 where
     pub s' : RingSeat T t

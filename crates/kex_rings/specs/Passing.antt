@@ -20,8 +20,8 @@ module _ {A P : Type 0} where
     pub most : min (length (waiting_items old)) (known_free ring) ≤ length more
     pub free : known_free ring ≤ known_free ring' + length more
 
-  -- so many items came out, at least all that were seen, within the room; where nothing stands
-  -- behind an end they lie in the inbox
+  -- `count` items came out, at least all that were seen, within the room; where nothing comes
+  -- after an end they lie in the inbox
   pub record Pulls (room : ℕ) (old new : Inbox) (ring ring' : Consumer Item A P)
       (count : ℕ) : Type 0 where
     pub same : SameConsumer ring ring'
@@ -33,7 +33,7 @@ module _ {A P : Type 0} where
     pub lies : IsWhole (waiting_items old ++ items_as items)
         → waiting_items new ≡ waiting_items old ++ items_as items
 
-  -- so many items came out, what was seen before the rest; where nothing stands behind an end they
+  -- `count` items came out, what was seen before the rest; where nothing comes after an end they
   -- lie in the inbox
   pub record ComesOut (old new : Inbox) (ring ring' : Consumer Item A P) (count : ℕ) : Type 0 where
     pub same : SameConsumer ring ring'

@@ -10,13 +10,13 @@ use Rattle.kex_pipe.specs.declared.turn.Turn.{Ghosts}
 use Rattle.kex_rings.specs.declared.ring_seat.RingSeat.{RingSeat}
 use Rattle.kex_rings.specs.Looking.{IsEmpty, lies_before}
 
--- what is moved from one box lies behind what another holds, unless that has ended
+-- what is moved from one box comes after what another holds, unless that has ended
 abbrev pub MovesFrom : Inbox → Inbox → Inbox → Type 0
 MovesFrom from to to' = (to.ended ≡ false) ⊎ (waiting_items from ≡ [])
     → waiting_items to' ≡ waiting_items to ++ waiting_items from
 
 module _ {T : Type 0} (t : Ghosts T) where
-  -- the stage without its rings: before it lies what lay before it, and behind that what had not
+  -- the stage without its rings: before it lies what lay before it, and after that what had not
   -- been sent to it; what it had not sent is to come before the next
   pub record Gathers (s : RingSeat T t) (s' : Seat T t) (unsent on : List StreamItem) : Type 0 where
     pub same_staged : s'.staged ≡ s.seat.staged
@@ -34,7 +34,7 @@ module _ {T : Type 0} (t : Ghosts T) where
   GathersAll ss ss' unsent on = ⊥
 
   -- each stage sits in its seat; what came to it is what it has taken and then what waits, and
-  -- nothing lies in its outbox; what comes behind the last stage is this front, and then what was
+  -- nothing lies in its outbox; what comes after the last stage is this front, and then what was
   -- made
   abbrev pub StageLine : List StreamItem → List t.Plan → List (Seat T t) → List Progress
       → List StreamItem → Inbox → Type 0
@@ -44,7 +44,7 @@ module _ {T : Type 0} (t : Ghosts T) where
       × (waiting_items s.outbox ≡ [])
   StageLine came ps ss xs front made = ⊥
 
-  -- what lay in the outbox lies behind what waited before the next stage, or behind what was made
+  -- what lay in the outbox comes after what waited before the next stage, or after what was made
   abbrev pub HandsOn : Inbox → List (Seat T t) → Inbox → List (Seat T t) → Inbox → Type 0
   HandsOn outbox [] made [] made' = MovesFrom outbox made made'
   HandsOn outbox (n ∷ ss) made (n' ∷ ss') made' = MovesFrom outbox n.inbox n'.inbox
@@ -59,7 +59,7 @@ module _ {T : Type 0} (t : Ghosts T) where
       → (ys : List Progress) × Turned t.gives i m came ps xs ys
       × StageLine came ps ss' ys front made'
 
-  -- the stages have come there by turns behind these events
+  -- the stages have come there by turns after these events
   pub record ComesBy (ps : List t.Plan) (before : List Event) (came front : List StreamItem)
       (ss : List (Seat T t)) (made : Inbox) : Type 0 where
     pub events : List Event

@@ -32,7 +32,7 @@ fn new_ring(
     Ok((Some(to), Some(from)))
 }
 
-/// Each seat with a new ring to the one behind it.
+/// Each seat with a new ring to the one after it.
 pub(crate) fn join_all<T: Turn + Drop>(
     alloc: Global,
     room: u32,

@@ -92,7 +92,7 @@ fn pull_run(ring: &mut Consumer<Item>, inbox: &mut Inbox, room: u64) -> Result<u
     Ok(count as u64)
 }
 
-/// Takes at most so many items out of the ring, and tells how many.
+/// Takes at most `room` items out of the ring, and tells how many.
 pub(crate) fn pull(ring: &mut Consumer<Item>, inbox: &mut Inbox, room: u64) -> Result<u64, Memory>
     ensures { IfOk result (λ count. Pulls room inbox.old inbox.new ring.old ring.new count) }
 {

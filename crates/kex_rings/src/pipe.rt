@@ -23,11 +23,11 @@ use kex_pipe::turn::Turn;
 use std::alloc::Global;
 use std::mem::replace;
 
-/// Stages, each but the last with a ring behind it. What the last one writes is the output.
+/// Stages, each but the last with a ring after it. What the last one writes is the output.
 ///
 /// What the contracts say of what it was given and has written is a schedule of turns, which it
 /// doesn't store. To the inbox of a stage in that schedule belongs what lies in the ring before it,
-/// and behind that what the stage before it has not sent yet.
+/// and after that what the stage before it has not sent yet.
 #[derive(Drop)]
 pub struct RingPipe<T: Turn> {
     pub(crate) alloc: Global,

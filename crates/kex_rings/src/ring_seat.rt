@@ -10,8 +10,8 @@ use kex_pipe::seat::Seat;
 use kex_pipe::turn::Turn;
 use rtrb::{Consumer, Producer};
 
-/// A stage, the end of the ring before it that gives, and the end of the ring behind it that takes.
-/// What the ring behind didn't take lies in the outbox. The first stage takes from its inbox, and
+/// A stage, the end of the ring before it that gives, and the end of the ring after it that takes.
+/// What the ring after it didn't take lies in the outbox. The first stage takes from its inbox, and
 /// what the last one writes stays in its outbox.
 #[derive(Drop)]
 pub struct RingSeat<T: Turn> {
@@ -99,7 +99,7 @@ impl<T: Turn> RingSeat<T> {
             && self.seat.outbox.is_empty()
     }
 
-    /// So many looks, at least one.
+    /// Makes `looks` looks, and tells how many items the stage took in them.
     pub(crate) fn work(&mut self, looks: u32, room: u64) -> Result<u64, Memory>
         requires usable { IsTrue self.old.seat.usable }
         requires some { 0 < looks }

@@ -124,7 +124,7 @@ fn look_at(to: &mut Option<Producer<Item>>, from: &mut Option<Consumer<Item>>)
     }
 }
 
-// The last stage in front and the first one behind it, which have the ends of one ring.
+// The last stage in front and the first one after it, which have the ends of one ring.
 fn look_between<T: Turn>(front: &mut [RingSeat<T>], back: &mut [RingSeat<T>])
     requires front { 0 < length front.old }
     requires back { 0 < length back.old }
@@ -140,7 +140,7 @@ fn look_between<T: Turn>(front: &mut [RingSeat<T>], back: &mut [RingSeat<T>])
     look_at(&mut before.to, &mut behind.from);
 }
 
-// The stages at this place and behind it, which have the ends of one ring.
+// The stages at this place and after it, which have the ends of one ring.
 fn look_beside<T: Turn>(seats: &mut [RingSeat<T>], i: usize)
     requires within { i + 1 < length seats.old }
     requires paired { (room : ℕ) × (front : List (RingSeat T T.Turn)) × (s : RingSeat T T.Turn)
@@ -169,7 +169,7 @@ fn look_beside_all<T: Turn>(seats: &mut [RingSeat<T>])
     }
 }
 
-// What the last stage has written goes behind the output in hand.
+// What the last stage has written goes after the output in hand.
 fn carry_out<T: Turn>(seats: &mut [RingSeat<T>], output: &mut Inbox) -> Result<(), Memory>
     requires { 0 < length seats.old }
     ensures count { length seats.new ≡ length seats.old }
@@ -219,9 +219,9 @@ fn run<R: Threads + Sync, T: Turn + Send, G: Gate + Sync>(
     carry_out(seats, output)
 }
 
-/// Each stage makes so many looks, at least one, all at once. A look sends what is unsent while the
-/// ring behind takes it; only if nothing is left unsent it takes what it sees in the ring before,
-/// as much as a ring has room for. The stages enter the gate before their looks and leave it after.
+/// Each stage makes `looks` looks, all at once. A look sends what is unsent while the ring after it
+/// takes that; only if nothing is left unsent it takes what it sees in the ring before, as much as
+/// a ring has room for. The stages enter the gate before their looks and leave it after.
 /// `counts` becomes the number of items that each stage took.
 pub fn ring_round<R: Threads + Sync, T: Turn + Drop + Send, G: Gate + Sync>(
     rt: &R,

@@ -22,7 +22,7 @@ use kex_pipe::turn::Turn;
 use rtrb::Consumer;
 use std::alloc::Global;
 
-/// A stage takes so many items in a step, at most.
+/// A stage takes this many items in a step, at most.
 const STEP: u64 = 4_096;
 
 // Takes all that is seen in the ring, if there is one.
@@ -75,7 +75,7 @@ fn gather_each<T: Turn + Drop>(
     Ok(row)
 }
 
-// What a stage has written is handed on: before the next one, and behind the last one to what was
+// What a stage has written is handed on: before the next one, and after the last one to what was
 // made.
 fn hand_on<T: Turn>(
     outbox: &mut Inbox,
@@ -167,7 +167,7 @@ fn work_off<T: Turn>(seats: &mut [Seat<T>], made: &mut Inbox) -> Result<(), Memo
 }
 
 /// The stages with new rings, after all that waits was worked off. What the last one has written
-/// goes behind the output in hand.
+/// goes after the output in hand.
 pub(crate) fn settle_all<T: Turn + Drop>(
     alloc: Global,
     room: u32,

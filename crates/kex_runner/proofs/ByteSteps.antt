@@ -80,7 +80,7 @@ ending_some t state s way at some p e = ap (λ z. ended_by (way_of (slice_get t.
 pub place_begun : (t : Transducer) → IsTable t → IsTablePlace t 0 (first_pass t.initial).registers
 place_begun t table = let h = table.begins in record { row = h.row; at = h.at; count = length-map t.initial.regs (λ x. parts_code [] 0 x) ∙ h.update.count }
 
--- what was gone along is a front of a piece, and behind it nothing or a byte at which the table stops
+-- what was gone along is a front of a piece, and then comes nothing or a byte where the table stops
 pub follows_front : (t : Transducer) (state : ℕ) (registers : List (List Symbol)) (piece : List ℕ) (good taken state' : ℕ) (registers' : List (List Symbol)) (before after : List Symbol) → taken ≤ length piece → good ≤ taken → (good < taken → (taken ≡ good + 1) × ((c : List Symbol) → passes_if t (Some (pass_at state c registers)) (take (good + 1) piece) ≡ None)) → Goes t state registers piece good state' registers' before after → Follows t state registers (take taken piece) good state' registers' before after
 follows_front t state registers piece good taken state' registers' before after le ge stop h = record {
   within = omega (arith, length-take-le taken piece le);

@@ -50,7 +50,7 @@ pub byte_within : (piece : List ℕ) (from to k : ℕ) → k < length (take (to 
 byte_within piece from to k lt = get_or-take (to - from) (drop from piece) k 0 (omega (arith, lt, length-take (to - from) (drop from piece))) ∙ get_or-drop from piece k 0
 
 module _ (t : Transducer) (g : Guide) (table : IsTable t) (script : IsScriptOf g.script t) (guide : IsGuide t g) where
-  -- what is told at a place of the row of a state
+  -- what a row of a state has at a place
   pub told : (row class : ℕ) (q : Quiet) → row ≡ row / g.width * g.width → class < g.width → slice_get g.quiets.items (row + class) ≡ Some q → (q.row ≡ 4294967295 → ⊥) → IsQuiet (entry_at g.script (row / g.width) class) g.width (length g.quiets.items) q
   told row class q whole lt at some =
       let w = g.width in
@@ -145,7 +145,7 @@ module _ (t : Transducer) (g : Guide) (table : IsTable t) (script : IsScriptOf g
                 (subst (λ z. Goes t state registers piece (i + n + 1) (q.row / g.width) z [] []) there gone)),
           )
 
--- a piece is followed on behind its front
+-- a piece is followed on after its front
 pub goes_on : (t : Transducer) (state : ℕ) (registers : List (List Symbol)) (piece rest : List ℕ) (i n : ℕ) (state' : ℕ) (registers' : List (List Symbol)) (state'' : ℕ) (registers'' : List (List Symbol)) (before after : List Symbol) → rest ≡ drop i piece → Goes t state registers piece i state' registers' before after → Follows t state' registers' (take n rest) n state'' registers'' [] [] → Goes t state registers piece (i + n) state'' registers'' before after
 goes_on t state registers piece rest i n state' registers' state'' registers'' before after behind h f = record {
   more = h.more;

@@ -68,7 +68,7 @@ begins s t h = own_update s s.initial 0 t.initial h.initial
 pub registers_begun : (s : Sheet) (t : Transducer) (registers none : List (List Symbol)) → IsScriptOf s t → none ≡ [] → registers ≡ next_registers (change_at s s.initial.update) 0 none → registers ≡ (first_pass t.initial).registers
 registers_begun s t registers none h e f = f ∙ ap₂ (λ y z. next_registers y 0 z) h.initial.update e
 
--- what is told stands behind more
+-- the table goes along a piece in the same way where there is code in front
 pub follows_behind : (t : Transducer) (state : ℕ) (registers : List (List Symbol)) (piece : List ℕ) (count state' : ℕ) (registers' : List (List Symbol)) (c before after : List Symbol) → Follows t state registers piece count state' registers' before after → Follows t state registers piece count state' registers' (c ++ before) (c ++ after)
 follows_behind t state registers piece count state' registers' c before after f = record {
   within = f.within;

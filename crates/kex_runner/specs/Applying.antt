@@ -8,13 +8,13 @@ use Rattle.kex_runner.specs.Noting.{next_registers}
 use Rattle.kex_runner.specs.Running.{Running}
 use Rattle.kex_runner.specs.declared.answers.Applied.{Applied}
 
--- the course of its state goes on, or stops behind as many bytes as is told
+-- the course of its state goes on, or stops after as many bytes as the answer says
 abbrev pub AnswersCourse : Option Course → Applied → Type 0
 AnswersCourse None answer = ⊥
 AnswersCourse (Some (Gone n)) answer = answer ≡ Applied.Gone n
 AnswersCourse (Some (Goes q u)) answer = answer ≡ Applied.On
 
--- a runner that went to a state by an update, past so many bytes
+-- a runner that went past a number of bytes to a state by an update
 abbrev pub went_by : Running → ℕ → Change → ℕ → Running
 went_by r state u bytes = record r {
   state = state;

@@ -25,7 +25,7 @@ abbrev pub pass_at : ℕ → List Symbol → List (List Symbol) → Pass
 pass_at state c registers = record { state = state; code = c; registers = registers }
 
 -- from one place the table goes on along the first bytes of a piece to another, and puts a code
--- behind what was there; it stops at the byte behind them, if there is one
+-- after what was there; it stops at the byte after them, if there is one
 pub record Follows (t : Transducer) (state : ℕ) (registers : List (List Symbol)) (piece : List ℕ)
     (count state' : ℕ) (registers' : List (List Symbol)) (before after : List Symbol) : Type 0 where
   pub within : count ≤ length piece

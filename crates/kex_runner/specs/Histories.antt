@@ -12,7 +12,7 @@ base_of h = settled_of h.script.now h.base.now
 abbrev pub noted_in : History → List ByteUpdate
 noted_in h = updates_of h.script.now h.notes.now
 
--- what the registers hold after so many notes
+-- what the registers hold after the first k notes
 abbrev pub contents_at : History → ℕ → List (List Symbol)
 contents_at h k = registers_after (base_of h) (take k (noted_in h))
 

@@ -22,7 +22,7 @@ abbrev pub codes_of : Sheet → List (List Symbol) → List ByteUpdate → List 
 codes_of s base notes [] = []
 codes_of s base notes (u ∷ us) = unread_code s base notes u ++ codes_of s base notes us
 
--- each comes after one of so many notes
+-- each comes after at most `count` notes
 abbrev pub AreNoted : ℕ → List Unread → Type 0
 AreNoted count [] = Unit {0}
 AreNoted count (u ∷ us) = (u.after ≤ count) × AreNoted count us
@@ -36,7 +36,7 @@ abbrev pub unless_empty : ℕ → Unread → List Unread
 unless_empty zero u = []
 unless_empty (suc n) u = u ∷ []
 
--- how many parts are read behind this one, where each register takes so many
+-- how many parts are read further for this one, by how many each register takes
 abbrev pub further_work : List ℕ → Part → ℕ
 further_work ws (Put s) = 0
 further_work ws (Old i) = get_or ws i 0
@@ -47,7 +47,7 @@ abbrev pub part_work : List ℕ → List Part → ℕ
 part_work ws [] = 0
 part_work ws (x ∷ xs) = suc (further_work ws x + part_work ws xs)
 
--- how many parts are read for each register after the updates, where each took so many before
+-- how many parts are read for each register after the updates, by how many each took before
 abbrev pub register_work : List ℕ → List ByteUpdate → List ℕ
 register_work ws [] = ws
 register_work ws (n ∷ ns) = register_work (map (λ xs. part_work ws xs) n.update.regs) ns
@@ -72,7 +72,7 @@ old_weight ws None = 0
 old_weight ws (Some i) = suc (get_or ws i 0 + get_or ws i 0)
 
 -- what is said is to be read from the next list, or was read, before the pieces that were; and it
--- takes no more than so much
+-- takes no more than `most`
 pub record HasAskedNext (s : Sheet) (base : List (List Symbol)) (notes : List ByteUpdate)
     (old new : Reading) (next : Option Unread) (said : List Symbol) (most : ℕ) : Type 0 where
   pub text : codes_of s base notes (if_some next) ++ spelled_back s.words new.back.items
@@ -81,7 +81,7 @@ pub record HasAskedNext (s : Sheet) (base : List (List Symbol)) (notes : List By
   pub noted : AreNoted (length notes) (if_some next)
   pub weight : weight_of s notes (if_some next) ≤ most
 
--- what an old register holds after so many notes, if there is one, is to be read
+-- what an old register, if there is one, holds after a number of notes is to be read
 abbrev pub HasAskedFor : Sheet → List (List Symbol) → List ByteUpdate → ℕ → Option ℕ → Reading
     → Reading → Option Unread → Type 0
 HasAskedFor s base notes after old before now next =

@@ -24,11 +24,11 @@ abbrev pub registers_after : List (List Symbol) → List ByteUpdate → List (Li
 registers_after base [] = base
 registers_after base (n ∷ ns) = registers_after (next_registers n.update n.byte base) ns
 
--- what pieces spell that stand last first
+-- what pieces spell that are kept last first
 abbrev pub spelled_back : List (List Part) → List ByteWord → List Symbol
 spelled_back words ps = code_over words (reverse ps)
 
--- registers that are settled, each in pieces that stand last first
+-- registers that are settled, each in pieces that are kept last first
 abbrev pub settled_of : Sheet → List (List ByteWord) → List (List Symbol)
 settled_of s base = map (λ ps. spelled_back s.words ps) base
 
@@ -39,7 +39,7 @@ update_of s n = record { update = change_at s n.update; byte = n.byte }
 abbrev pub updates_of : Sheet → List NotedUpdate → List ByteUpdate
 updates_of s notes = map (λ n. update_of s n) notes
 
--- what registers hold after so many notes
+-- what registers hold after notes
 abbrev pub noted_by : Sheet → List (List ByteWord) → List NotedUpdate → List (List Symbol)
 noted_by s base notes = registers_after (settled_of s base) (updates_of s notes)
 

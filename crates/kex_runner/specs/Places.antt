@@ -1,8 +1,8 @@
--- Where a runner stands.
+-- Where a runner is.
 use Rattle.std.specs.Prelude.{◌≡◌, ℕ, false, []}
 use Rattle.kex_runner.specs.Running.{Running}
 
--- at a state without registers, behind so many bytes of which none was refused, with nothing to be
+-- at a state without registers, after `read` bytes of which none was refused, with nothing to be
 -- passed on
 pub record StandsAt (r : Running) (state read : ℕ) : Type 0 where
   pub state_is : r.state ≡ state

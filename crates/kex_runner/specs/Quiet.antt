@@ -10,8 +10,8 @@ use Rattle.kex_runner.specs.declared.quiet.Quiet.{Quiet}
 use Rattle.kex_runner.specs.declared.quiet.Guide.{Guide}
 use Rattle.kex_runner.specs.declared.history.NotedUpdate.{NotedUpdate}
 
--- an entry is quiet, and this tells its update, and where the row of its target begins, within so
--- many places
+-- an entry is quiet, and this has its update, and where the row of its target begins; that row is
+-- within `count` places
 pub record IsQuiet (e : Entry) (width count : ℕ) (q : Quiet) : Type 0 where
   pub goes : e.goes ≡ true
   pub silent : e.silent ≡ true
@@ -19,7 +19,7 @@ pub record IsQuiet (e : Entry) (width count : ℕ) (q : Quiet) : Type 0 where
   pub row : q.row ≡ e.target * width
   pub within : q.row + width ≤ count
 
--- the same, where a row is told
+-- the same, where there is a row
 abbrev pub IsQuietIf : Entry → ℕ → ℕ → Quiet → Type 0
 IsQuietIf e width count q = (q.row ≡ 4294967295 → ⊥) → IsQuiet e width count q
 
@@ -39,7 +39,7 @@ pub record IsGuide (t : Transducer) (g : Guide) : Type 0 where
   pub narrow : g.width ≤ 256
   pub quiet : AreQuiet g.script g.width (length g.quiets.items) g.quiets.items
 
--- what is told for a byte in a row
+-- what a row has for a byte
 abbrev pub quiet_at : List Quiet → List ℕ → ℕ → ℕ → Quiet
 quiet_at qs classes row b = get_or qs (row + class_at classes b) (record { row = 0; update = 0 })
 

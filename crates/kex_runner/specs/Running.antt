@@ -29,7 +29,7 @@ pub record Running : Type 0 where
 abbrev pub pass_of : Running → List Symbol → Pass
 pass_of r c = record { state = r.state; code = c ++ r.pending; registers = r.registers }
 
--- v is a front of w, and the table stops at the byte behind it
+-- v is a front of w, and the table stops at the byte after it
 pub record StopsBehind (t : Transducer) (w v : List ℕ) : Type 0 where
   pub byte : ℕ
   pub rest : List ℕ
@@ -63,7 +63,7 @@ IsRunnerFed On r w c = (passes r.table w
     ≡ Some (record { state = r.state; code = c; registers = r.registers })) × IsRunOf r w c
 IsRunnerFed Dead r w c = (passes r.table w ≡ None) × IsRunOf r w c
 
--- feeding a piece has put its code behind what was there
+-- feeding a piece has put its code after what was there
 pub record RunnerFeeds (answer : Fed) (old new : Running) (piece : List ℕ)
     (before after : List Symbol) : Type 0 where
   pub more : List Symbol
@@ -85,12 +85,12 @@ pub record IsPassedOn (t : Transducer) (w : List ℕ) (c : List Symbol) : Type 0
   pub passes : passes t of ≡ Some pass
   pub code : c ≡ pass.code
 
--- what the end was answered by, behind w, where c was passed on in all
+-- how the end was answered after w, where c was passed on in all
 abbrev pub IsRunnerOver : Ended → Transducer → List ℕ → List Symbol → Type 0
 IsRunnerOver Parsed t w c = (p : Pass) × (passes t w ≡ Some p) × (whole_code t p ≡ Some c)
 IsRunnerOver Cut t w c = HasNoEnd t (passes t w) × IsPassedOn t w c
 
--- the end has put its code behind what was there
+-- the end has put its code after what was there
 pub record RunnerEnds (answer : Ended) (old : Running) (before after : List Symbol) : Type 0 where
   pub more : List Symbol
   pub code : after ≡ before ++ more

@@ -1,4 +1,4 @@
--- Ways: old registers one behind the other, and what they were before an update.
+-- Ways: old registers one after another, and what they were before an update.
 use Rattle.std.specs.Prelude.{◌≡◌, ℕ, ◌+◌, ◌<◌, ◌≤◌, List, [], ◌∷◌, ◌++◌, Option, Some, None, All}
 use Rattle.std.specs.Prelude.{IfSome, get_or, slice_get, length, take}
 use Rattle.kex_code.specs.declared.symbol.Symbol.{Symbol}
@@ -89,7 +89,7 @@ pub record AreKnown (s : Sheet) (w : Ways) : Type 0 where
   pub starts : All (IsStart s w.lists) w.starts.items
   pub steps : All (IsStepIf s w.lists) w.steps.items
 
--- a way over all notes, and what stood behind it, are another one over some of them, and pieces
+-- a way over all notes, and what comes after it, are another one over some of them, and pieces
 pub record HasWalked (s : Sheet) (ways : List (List Part)) (notes : List ByteUpdate)
     (from : List Part) (place : WalkPoint) (old new : List ByteWord) : Type 0 where
   pub after : place.after ≤ length notes

@@ -17,8 +17,8 @@ pub enum Ended {
     Cut,
 }
 
-/// What a summary leaves: its text was taken whole, or nothing, since the table stops behind so
-/// many of its bytes.
+/// What comes of a summary: its text was taken whole, or nothing was, since the table stops after
+/// that many of its bytes.
 #[derive(Clone, Copy, Debug, PartialEq, Eq)]
 pub enum Applied {
     On,

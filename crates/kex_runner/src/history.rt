@@ -9,7 +9,7 @@ use kex_script::script::Script;
 use std::marker::Model;
 
 /// The update that was done, and the byte that was read. Where the state stays a note may say so:
-/// notes of the same update may stand before it then. Nothing rests on what it says.
+/// notes of the same update may come before it then. Nothing rests on what it says.
 #[derive(Clone, Copy)]
 pub struct NotedUpdate {
     pub update: UpdateId,

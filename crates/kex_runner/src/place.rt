@@ -100,7 +100,7 @@ impl TablePlace {
     }
 
     /// Follows the table along a piece, as far as it goes on, and tells how many bytes that is.
-    /// What is passed on is put behind pieces.
+    /// What is passed on is put after the pieces.
     pub fn follow<L: Ledger>(
         &mut self,
         table: &Table,
@@ -136,7 +136,7 @@ impl TablePlace {
 
     /// Follows the table along a piece, up to a byte at which it stops, or one at which there are
     /// no registers: where the next state has none either, or many bytes were taken. What is learnt
-    /// goes on faster from there. What is passed on is put behind pieces.
+    /// goes on faster from there. What is passed on is put after the pieces.
     pub fn follow_held(
         &mut self,
         table: &Table,

@@ -33,7 +33,7 @@ pub struct Guide {
     pub width: usize,
 }
 
-// What an entry does, if it is quiet and the row of its target is within so many places.
+// What an entry does, if it is quiet and the row of its target is within `count` places.
 fn quiet_of(entry: Entry, width: usize, count: usize) -> Quiet
     requires width { width ≤ 256 }
     requires count { count < 2 ^ 32 }
@@ -52,7 +52,7 @@ fn quiet_of(entry: Entry, width: usize, count: usize) -> Quiet
     }
 }
 
-// The quiet updates of a script, as far as they are within so many places.
+// The quiet updates of a script, as far as they are within `count` places.
 fn quiets_of(
     alloc: Global,
     script: &Script,
@@ -72,7 +72,7 @@ fn quiets_of(
     Ok(all)
 }
 
-// The least width of rows for so many classes, as a power of two.
+// The least width of rows for `count` classes, as a power of two.
 fn shift_of(count: u16) -> u32
     requires { count ≤ 256 }
     ensures within { result ≤ 8 }
@@ -85,7 +85,7 @@ fn shift_of(count: u16) -> u32
     shift
 }
 
-// How many states there are up to the last that has registers. No other is behind a quiet update.
+// How many states there are up to the last that has registers. A quiet update leads to one of them.
 fn states_with_registers(states: &[State]) -> usize {
     let mut count = 0;
     for (number, state) in states.iter().enumerate() {

@@ -65,7 +65,7 @@ fn settled_pieces(alloc: Global, back: &[ByteWord]) -> Result<Settled, Memory>
     Ok(Settled { pieces })
 }
 
-// The first so many registers, each looked up. None where they come to more pieces than so many.
+// The registers, each looked up. None where they come to more than `most` pieces.
 fn settled(
     alloc: Global,
     history: &History,
@@ -100,7 +100,7 @@ fn pieces_in(base: &[Settled]) -> usize {
     count
 }
 
-// A note is put behind others. There is room mostly: what makes room is apart.
+// A note is put after others. There is room mostly: what makes room is apart.
 #[inline(always)]
 fn push(notes: &mut Vec<NotedUpdate>, note: NotedUpdate) -> Result<(), Memory>
     ensures ok { OnOk result (notes.new.items ≡ notes.old.items ++ note ∷ []) }
@@ -285,7 +285,7 @@ impl Registers {
         Ok(())
     }
 
-    // What an update passes on is put behind pieces.
+    // What an update passes on is put after the pieces.
     fn pass(
         &mut self,
         script: &Script,
@@ -311,7 +311,7 @@ impl Registers {
         history.pass_list(ways, list, byte, &mut self.scratch, pieces)
     }
 
-    /// Does an update: what it passes on is put behind pieces. Its registers are only noted.
+    /// Does an update: what it passes on is put after the pieces. Its registers are only noted.
     #[inline(always)]
     pub fn take(
         &mut self,
@@ -342,7 +342,7 @@ impl Registers {
 
     // Goes along the front of a piece while updates are quiet and there is room for notes. Tells
     // how many bytes that is. Not inlined: within a long caller what the loop reads for each byte
-    // would stand in memory.
+    // would be kept in memory.
     #[inline(never)]
     fn go_quiet(
         &mut self,
@@ -456,7 +456,7 @@ impl Registers {
         }
     }
 
-    /// What stands on a way of registers goes to the end of a code.
+    /// What a way of registers stands for goes to the end of a code.
     pub fn spell(&mut self, script: &Script, way: &[Part], code: &mut Code) -> Result<(), Memory>
         ensures code { OnOk result (code.new
             ≡ code.old ++ parts_code (contents script.now self.old) 0 way.now) }

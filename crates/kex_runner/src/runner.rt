@@ -147,7 +147,7 @@ impl<'t> Runner<'t> {
         Ok(())
     }
 
-    /// Takes bytes, and puts what they let it pass on behind a code. `Dead` exactly where the table
+    /// Takes bytes, and puts what they let it pass on after a code. `Dead` exactly where the table
     /// stops at one of them, and then for good. Each item of an update of a byte that is taken is a
     /// step.
     ///
@@ -278,7 +278,7 @@ impl<'t> Runner<'t> {
         }
     }
 
-    /// Goes on to a state without registers, past so many bytes whose code was passed on elsewhere.
+    /// Goes on to a state without registers, past bytes whose code was passed on elsewhere.
     pub fn jump(&mut self, state: u32, bytes: u64)
         requires place { IsTablePlace self.old.table state [] }
         requires told { self.old.pending ≡ [] }

@@ -97,7 +97,7 @@ fn are_olds(parts: &[Part]) -> bool
     true
 }
 
-// Where the word begins that parts end with: behind the last old register.
+// Where the word begins that parts end with: after the last old register.
 fn word_start(parts: &[Part]) -> usize
     ensures within { result ≤ length parts.now }
     ensures plain { olds (drop result parts.now) ≡ [] }
@@ -167,7 +167,7 @@ pub fn split_of(
     Ok(Some(Split { way, last, word }))
 }
 
-// A part is put behind parts, an old register as what an update gives it.
+// A part is put after parts, an old register as what an update gives it.
 fn put(script: &Script, update: UpdateId, part: Part, parts: &mut Vec<Part>) -> Result<(), Memory>
     ensures { OnOk result (parts.new.items
         ≡ parts.old.items ++ composition (change_at script.now update) (part ∷ [])) }
@@ -205,7 +205,8 @@ fn compose(
     Ok(())
 }
 
-// Where the step of a way with this last register is kept: each way of a state has its own.
+// Where the step of a way with this last register is kept. Ways that have a place in common take it
+// from one another.
 #[inline(always)]
 fn place_of(last: u32, update: UpdateId) -> usize
     ensures { result ≡ update + last }

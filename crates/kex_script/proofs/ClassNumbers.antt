@@ -1,4 +1,4 @@
--- Numbers of classes that are put behind others, with zeros behind them.
+-- Numbers of classes that are put after others, with zeros after them.
 use Rattle.std.proofs.Common.{◌≡◌, ℕ, ◌+◌, ◌-◌, ◌<◌, ◌++◌, List, ⊎_elim, Some, length, length-append, get_or, replicate, append_assoc, sym, ap, ◌∙◌, arith}
 use Rattle.std.specs.Prelude.{slice_get}
 use Rattle.std.proofs.lemmas.Bool.{cases_lt}

@@ -1,4 +1,4 @@
--- Pages that grow: what stands stays.
+-- Pages that grow: what is there stays.
 use Rattle.std.proofs.Common.{◌≡◌, ℕ, zero, suc, ◌+◌, ◌<◌, ◌≤◌, List, [], ◌∷◌, ◌++◌, ◌⊎◌, inl, inr, ⊎_elim, Option, Some, None, length, get_or, take, drop, refl, sym, ap, subst, ◌∙◌, arith}
 use Rattle.std.specs.Prelude.{slice_get}
 use Rattle.std.proofs.lemmas.Option.{slice_get_within, slice_get-get_or}
@@ -22,7 +22,7 @@ keeps_more [] ys k x e = let bad : ⊥ = cc in absurd bad
 keeps_more (a ∷ xs) ys zero x e = e
 keeps_more (a ∷ xs) ys (suc k) x e = keeps_more xs ys k x e
 
--- the front of a list stands in it
+-- a list keeps the items of its front
 pub keeps_front : {A : Type 0} (n : ℕ) (xs : List A) → KeepsItems (take n xs) xs
 keeps_front n xs = subst (λ z. KeepsItems (take n xs) z) (take-append-drop n xs) (keeps_more (take n xs) (drop n xs))
 
@@ -37,7 +37,7 @@ slice_get-drop zero xs k = let e : k ≡ 0 + k = omega arith in ap (λ z. slice_
 slice_get-drop (suc n) [] k = refl
 slice_get-drop (suc n) (x ∷ xs) k = let e : suc (n + k) ≡ suc n + k = omega arith in slice_get-drop n xs k ∙ ap (λ z. slice_get (x ∷ xs) z) e
 
--- what stands in the first list stands in as much of the second
+-- what a list keeps of another is in any front of it that is as long as the other
 pub kept_in_front : {A : Type 0} (n : ℕ) (xs ys : List A) → length xs ≤ n → KeepsItems xs ys → KeepsItems xs (take n ys)
 kept_in_front n xs ys le h k x e = let within = slice_get_within xs k x e in slice_get-take n ys k (omega (arith, le, within)) ∙ h k x e
 
@@ -200,7 +200,7 @@ the_row o p q r at count u here pushed many g h out more regs =
       regs = subst (λ z. AreListsAt r z (length u.regs) u.regs) longer regs;
     }
 
--- an update whose row stands elsewhere, too
+-- an update whose row is at another place too
 module _ (p q : Pages) (at there : ℕ) (same : p.lists ≡ q.lists) (moved : KeepsItems (drop at p.rows) (drop there q.rows)) where
   number_moved : (j n : ℕ) → slice_get p.rows (at + j) ≡ Some n → slice_get q.rows (there + j) ≡ Some n
   number_moved j n e = sym (slice_get-drop there q.rows j) ∙ moved j n (slice_get-drop at p.rows j ∙ e)

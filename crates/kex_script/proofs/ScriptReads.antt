@@ -67,7 +67,7 @@ module _ (s : Sheet) (p : Pages) (lists : s.lists ≡ p.lists) (rows : s.rows �
   is_entry e None h = h
   is_entry e (Some r) h = has_update e r.target r.update h
 
-  -- the entry of a class whose number is told
+  -- the entry of a class, by its number
   entry_told : (x : EntryPlace) (class : ℕ) (r : Option Transition) → IsClassAt p s.numbers s.entries x class r → IsEntryOf s (entry_in s (Some x) class) r
   entry_told x class r h =
       let e = h.entry in

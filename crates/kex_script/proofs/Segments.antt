@@ -10,7 +10,7 @@ use Rattle.kex_script.specs.Scripts.{if_old}
 use Rattle.kex_script.specs.Pages.{IsSegment, IsJoined}
 use Rattle.kex_script.proofs.Olds.{olds-append}
 
--- the first part, and parts behind it up to an old register
+-- the first part, and parts after it up to an old register
 pub with_old : (parts : List Part) (r end : ℕ) (d : Part) → 0 < length parts → get_or parts 0 d ≡ Old r → 1 ≤ end → end ≤ length parts → olds (drop 1 (take end parts)) ≡ [] → IsSegment (record { old = Some r; start = 1; end = end }) parts
 with_old [] r end d some is ge le plain = absurd (omega arith)
 with_old (x ∷ xs) r end d some is ge le plain = record { within = le; some = omega arith; start = ge; old = ap (λ z. z ∷ []) is; plain = plain }
@@ -23,7 +23,7 @@ whole_plain (x ∷ xs) (suc end) d some none ge plain = olds-append (x ∷ []) (
 pub without_old : (parts : List Part) (end : ℕ) (d : Part) → 0 < length parts → olds (get_or parts 0 d ∷ []) ≡ [] → 1 ≤ end → end ≤ length parts → olds (drop 1 (take end parts)) ≡ [] → IsSegment (record { old = None; start = 0; end = end }) parts
 without_old parts end d some none ge le plain = record { within = le; some = omega (arith, ge); start = omega arith; old = refl; plain = whole_plain parts end d some none ge plain }
 
--- a segment behind the parts that are read
+-- a segment after the parts that are read
 pub joined : (lists : List (List Part)) (number : ℕ) (parts word : List Part) (from : ℕ) (s : Segment) → slice_get lists number ≡ Some (take from parts) → from ≤ length parts → IsSegment s (take (length parts - from) (drop from parts)) → word ≡ take ((from + s.end) - (from + s.start)) (drop (from + s.start) parts) → IsJoined lists number s.old word (take (from + s.end) parts)
 joined lists number parts word from s at le f e =
     let h : IsSegment s (drop from parts) = subst (λ z. IsSegment s z) (take_rest parts from) f in

@@ -18,7 +18,7 @@ pub record Pages : Type 0 where
   pub tails : List Tail
   pub rows : List ℕ
 
--- what stands in the first list stands there in the second
+-- each item of the first list is at its place in the second
 abbrev pub KeepsItems : {A : Type 0} → List A → List A → Type 0
 KeepsItems {A} xs ys = (k : ℕ) (x : A) → slice_get xs k ≡ Some x → slice_get ys k ≡ Some x
 
@@ -47,17 +47,17 @@ pub record IsJoined (lists : List (List Part)) (number : ℕ) (old : Option ℕ)
   pub plain : olds word ≡ []
   pub joined : whole ≡ front ++ (if_old old ++ word)
 
--- the number of a list stands in the rows at a place
+-- the number of a list is in the rows at a place
 pub record IsListAt (p : Pages) (k : ℕ) (parts : List Part) : Type 0 where
   pub number : ℕ
   pub row : slice_get p.rows k ≡ Some number
   pub list : slice_get p.lists number ≡ Some parts
 
--- so many lists stand in the rows from a place on
+-- the numbers of n lists are in the rows from a place on
 abbrev pub AreListsAt : Pages → ℕ → ℕ → List (List Part) → Type 0
 AreListsAt p k n lists = (i : ℕ) → i < n → IsListAt p (k + i) (get_or lists i [])
 
--- an update stands in the rows at a place
+-- the row of an update begins at a place
 pub record IsRow (p : Pages) (at : ℕ) (u : Change) : Type 0 where
   pub count : slice_get p.rows at ≡ Some (length u.regs)
   pub out : IsListAt p (at + 1) u.out
@@ -75,7 +75,7 @@ abbrev pub HasRowIf : Pages → Entry → Option Transition → Type 0
 HasRowIf p e None = e.goes ≡ false
 HasRowIf p e (Some r) = HasRow p e r.target r.update
 
--- an entry stands at a place, of this transition or of none
+-- there is an entry at a place, of this transition or of none
 pub record IsEntryAt (p : Pages) (entries : List Entry) (at : ℕ)
     (r : Option Transition) : Type 0 where
   pub entry : Entry

@@ -27,13 +27,13 @@ pub record Sheet : Type 0 where
 abbrev pub list_at : Sheet → ℕ → List Part
 list_at s n = get_or s.lists n []
 
--- so many lists, whose numbers stand in the rows from k on
+-- n lists, whose numbers are in the rows from k on
 abbrev pub lists_from : Sheet → ℕ → ℕ → List (List Part)
 lists_from s k zero = []
 lists_from s k (suc n) = list_at s (get_or s.rows k 0) ∷ lists_from s (suc k) n
 
--- the update that stands in the rows at a place: how many registers it gives, what it passes on,
--- and what it gives them
+-- the update whose row begins at a place: how many registers it gives, what it passes on, and what
+-- it gives them
 abbrev pub change_at : Sheet → ℕ → Change
 change_at s at = record {
   out = list_at s (get_or s.rows (suc at) 0);

@@ -8,7 +8,7 @@ use crate::script::Entry;
 use kex_code::memory::Memory;
 use std::alloc::Global;
 
-/// How many numbers stand in front: those of classes that all have the first entry.
+/// How many numbers come first: those of classes that all have the first entry.
 const ZEROS: usize = 256;
 
 /// Where a state's numbers begin, one for each class, and where its entries do.
@@ -43,8 +43,8 @@ impl StateEntries {
     }
 }
 
-/// Puts the numbers of so many classes behind others, zeros behind the last, and tells where they
-/// stand. There are zeros in front.
+/// Puts the numbers of all classes after others, zeros for those past the row, and tells where they
+/// begin. Others begin with zeros.
 pub fn put_numbers(numbers: &mut Vec<u8>, row: &[u8], classes: u16) -> Result<u32, Memory>
     requires zeros { BeginsWithZeros numbers.old.items }
     requires short { length row.now ≤ classes }

@@ -2,9 +2,9 @@
 //! and what it then hands to the actor.
 //!
 //! Uses tables. A word is a list of parts without old registers; a `ByteWord` is a word with the
-//! byte that was read, and `code_over` says what symbols byte words spell. A `Script` has
-//! each list of parts of a table once, by number, and says for each state and class of bytes
-//! which update it has; `IsScriptOf` ties it to its table.
+//! byte that was read, and `code_over` says which symbols byte words spell. A `Script` has a
+//! table's lists of parts by number, and says for each state and class of bytes which update it
+//! has; `IsScriptOf` ties it to its table.
 //!
 //! ```text
 //! state, class ─ entry ─► update ─ passed, given ─► list ─ tail ─► list, register, word

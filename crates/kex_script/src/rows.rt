@@ -1,4 +1,4 @@
-// Rows of numbers, one behind the other.
+// Rows of numbers, one after the other.
 
 ghost use Rattle.std.specs.Prelude.{◌≡◌, ◌≤◌, ◌∷◌, ◌++◌, [], true, IfOk, IfSome, OnOk, length};
 ghost use Rattle.std.specs.Prelude.{take, drop};
@@ -10,7 +10,7 @@ use std::alloc::Global;
 use std::hash::{FoldHasher, Hasher};
 use std::marker::Model;
 
-/// Rows of numbers, one behind the other, each known by its place. Equal ones are found by a hash
+/// Rows of numbers, one after the other, each known by its place. Equal ones are found by a hash
 /// of their numbers; where two rows have one hash, the first isn't found again.
 #[derive(Drop)]
 pub struct Rows {
@@ -35,7 +35,7 @@ fn hash_of(row: &[u32]) -> u64 {
     hasher.finish()
 }
 
-// Whether a row stands at the front of numbers.
+// Whether numbers begin with a row.
 fn begins_with(numbers: &[u32], row: &[u32]) -> bool
     ensures { result ≡ true → KeepsItems row.now numbers.now }
 {
@@ -63,7 +63,7 @@ impl Rows {
         self.numbers.len()
     }
 
-    /// A number is put behind the others.
+    /// A number is put after the others.
     pub fn push(&mut self, number: u32) -> Result<(), Memory>
         ensures { OnOk result (self.new ≡ self.old ++ number ∷ []) }
     {
@@ -71,7 +71,7 @@ impl Rows {
         Ok(())
     }
 
-    // Where the row that begins at a place stands before it, if that is found.
+    // Where a row before a place equals the one that begins there, if such a row is found.
     fn find(&self, at: usize) -> Option<u32>
         requires { at ≤ length self.now }
         ensures { IfSome result (λ place.
@@ -87,8 +87,8 @@ impl Rows {
         }
     }
 
-    /// The row that begins at a place goes, where an equal one stands before it. Tells where it
-    /// stands.
+    /// The row that begins at a place goes, where an equal one is found before it. Tells where the
+    /// row is then.
     pub fn share(&mut self, at: u32) -> Result<u32, Memory>
         requires { at ≤ length self.old }
         ensures row { IfOk result (λ place. KeepsItems (drop at self.old) (drop place self.new)) }

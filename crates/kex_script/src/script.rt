@@ -74,7 +74,7 @@ impl Model for Script {
         × AreLetters s.words.items s.letters };
 }
 
-// What stands at a place of the rows.
+// The number at a place of the rows.
 #[inline(always)]
 fn number_at(rows: &[u32], at: usize) -> u32
     ensures { result ≡ get_or rows.now at 0 }

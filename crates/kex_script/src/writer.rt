@@ -99,7 +99,7 @@ fn word_end(parts: &[Part], start: usize) -> usize
     parts.len()
 }
 
-// The front of parts, up to the next old register behind the first part.
+// The front of parts, up to the next old register after the first part.
 fn first_segment(parts: &[Part]) -> Segment
     requires { 0 < length parts.now }
     ensures { IsSegment result parts.now }
@@ -204,7 +204,7 @@ impl Writer {
         Ok(number)
     }
 
-    // The number of a list is put behind the rows.
+    // The number of a list is put after the rows.
     fn put(&mut self, parts: &[Part]) -> Result<(), Memory>
         requires sound { AreSound self.old }
         ensures at { OnOk result (IsListAt self.new (length self.old.rows) parts.now) }
@@ -217,7 +217,7 @@ impl Writer {
         Ok(())
     }
 
-    // The numbers of lists are put behind the rows.
+    // The numbers of lists are put after the rows.
     fn put_all(&mut self, lists: &[Parts]) -> Result<(), Memory>
         requires sound { AreSound self.old }
         ensures at { OnOk result
@@ -231,7 +231,7 @@ impl Writer {
         Ok(())
     }
 
-    // An update is put behind the rows, if no equal one is there, and its place told.
+    // An update is put after the rows, if no equal one is found there. Tells its place.
     fn update(&mut self, update: &Update) -> Result<UpdateId, Memory>
         requires sound { AreSound self.old }
         ensures row { IfOk result (λ at. IsRow self.new at update.now) }
@@ -283,7 +283,7 @@ impl Writer {
         }
     }
 
-    // The entries of transitions are put behind others.
+    // The entries of transitions are put after others.
     fn write_entries(
         &mut self,
         all: &[Option<Transition>],
@@ -303,7 +303,7 @@ impl Writer {
         Ok(())
     }
 
-    // A state is put behind others.
+    // A state is put after others.
     fn write_state(&mut self, go: &Fan, states: &mut StateEntries) -> Result<(), Memory>
         requires sound { AreSound self.old }
         requires zeros { BeginsWithZeros states.old.numbers.items }

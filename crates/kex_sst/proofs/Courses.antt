@@ -38,7 +38,7 @@ substitute-substitute r s (Put c ∷ xs) = ap (λ z. Put c ∷ z) (substitute-su
 substitute-substitute r s (Old i ∷ xs) = substitute-append r (get_or s i []) (substitute s xs) ∙ ap₂ (λ y z. y ++ z) (sym (get_or-map (λ z. substitute r z) s i [])) (substitute-substitute r s xs)
 substitute-substitute r s (Input ∷ xs) = ap (λ z. Input ∷ z) (substitute-substitute r s xs)
 
--- one update behind another behind a third
+-- two updates and a third after them are the first, and the other two after it
 pub then_then_update : (u v w : Change) → then_update (then_update u v) w ≡ then_update u (then_update v w)
 then_then_update u v w = ap₂ (λ y z. record { out = y; regs = z })
     (append_assoc u.out (substitute u.regs v.out) (substitute (map (λ z. substitute u.regs z) v.regs) w.out)
@@ -61,7 +61,7 @@ substitute_olds pre (r ∷ regs) = ap₂ (λ y z. y ∷ z) (append-nil (get_or (
     more : map (λ xs. substitute ((pre ++ r ∷ []) ++ regs) xs) (olds_from (length (pre ++ r ∷ [])) (length regs)) ≡ regs → map (λ xs. substitute (pre ++ r ∷ regs) xs) (olds_from (suc (length pre)) (length regs)) ≡ regs
     more h = ap₂ (λ n all. map (λ xs. substitute all xs) (olds_from n (length regs))) (sym (one_more pre)) (sym (append_assoc pre (r ∷ []) regs)) ∙ h
 
--- behind an update nothing changes
+-- after an update the identity changes nothing
 pub then_identity : (u : Change) → then_update u (identity (length u.regs)) ≡ u
 then_identity u = ap₂ (λ y z. record { out = y; regs = z }) (append-nil u.out) (substitute_olds [] u.regs)
 
@@ -74,7 +74,7 @@ module _ (t : Transducer) where
   along_more n e [] y = let zero : n ≡ n + 0 = omega arith in ap (λ k. course_along t k e y) zero
   along_more n e (b ∷ x) y = let more : suc n + length x ≡ n + suc (length x) = omega arith in along_more (suc n) (next_course t n e b) x y ∙ ap (λ k. course_along t k (course_along t (suc n) (next_course t n e b) x) y) more
 
-  -- behind n bytes and an update a text goes on as it does from the state reached
+  -- after n bytes and an update a text goes on as it does from the state reached
   along_behind : (n j : ℕ) (u v : Change) (q : ℕ) (x : List ℕ) → course_along t (n + j) (Goes q (then_update u v)) x ≡ then_by (Some (course_along t j (Goes q v) x)) n u
   along_behind n j u v q [] = refl
   along_behind n j u v q (b ∷ x) = by (next_of t q b) (λ r. along_behind n (suc j) u (then_update v (with_read b r.update)) r.target x)
@@ -353,11 +353,11 @@ code_substitute regs lists (Put s ∷ xs) = ap (λ z. s ∷ z) (code_substitute 
 code_substitute regs lists (Old i ∷ xs) = code-append regs 0 (get_or lists i []) (substitute lists xs) ∙ ap₂ (λ y z. y ++ z) (sym (get_or-map (λ z. parts_code regs 0 z) lists i [])) (code_substitute regs lists xs)
 code_substitute regs lists (Input ∷ xs) = ap (λ z. Symbol.Byte 0 ∷ z) (code_substitute regs lists xs)
 
--- one update behind another passes on what it passes on over the registers that the other leaves
+-- two updates pass on what one does, and what the other does over the registers that it leaves
 pub then_code : (regs : List (List Symbol)) (u v : Change) → parts_code regs 0 (then_update u v).out ≡ parts_code regs 0 u.out ++ parts_code (map (λ z. parts_code regs 0 z) u.regs) 0 v.out
 then_code regs u v = code-append regs 0 u.out (substitute u.regs v.out) ∙ ap (λ z. parts_code regs 0 u.out ++ z) (code_substitute regs u.regs v.out)
 
--- and leaves what it leaves of them
+-- and leave what the other leaves of those
 pub then_registers : (regs : List (List Symbol)) (u v : Change) → map (λ z. parts_code regs 0 z) (then_update u v).regs ≡ map (λ z. parts_code (map (λ y. parts_code regs 0 y) u.regs) 0 z) v.regs
 then_registers regs u v =
     map-map (λ xs. substitute u.regs xs) (λ xs. parts_code regs 0 xs) v.regs
@@ -379,7 +379,7 @@ listed [] i z h = absurd h
 listed (r ∷ regs) zero z h = (r, inl refl, h)
 listed (r ∷ regs) (suc i) z h = let l = listed regs i z h in (l.0, inr l.1, l.2)
 
--- where nothing is read in the registers, nothing is read behind them
+-- where the registers read nothing, parts with their byte put in read nothing over them
 substitute_written : (b : ℕ) (regs : List (List Part)) (xs : List Part) (z : Part) → ((ys : List Part) → IsAmong regs ys → (x : Part) → IsAmong ys x → ReadsNothing x) → IsAmong (substitute regs (read_parts b xs)) z → ReadsNothing z
 substitute_written b regs [] z h i = absurd i
 substitute_written b regs (Put s ∷ xs) z h i = ⊎_elim (λ e. subst (λ y. ReadsNothing y) e tt) (λ j. substitute_written b regs xs z h j) i
@@ -390,7 +390,7 @@ among_map : {A B : Type 0} (f : A → B) (xs : List A) (y : B) → IsAmong (map 
 among_map f [] y h = absurd h
 among_map f (x ∷ xs) y h = ⊎_elim (λ e. (x, inl refl, e)) (λ i. let r = among_map f xs y i in (r.0, inr r.1, r.2)) h
 
--- an update behind one that reads nothing, with its byte, reads nothing
+-- after an update that reads nothing, one with its byte put in reads nothing either
 then_written : (b : ℕ) (u v : Change) → EachPart ReadsNothing u → EachPart ReadsNothing (then_update u (with_read b v))
 then_written b u v h = record {
   out = λ z i. ⊎_elim (λ j. h.out z j) (λ j. substitute_written b u.regs v.out z h.regs j) (among-append u.out (substitute u.regs (read_parts b v.out)) z i);
@@ -438,7 +438,7 @@ module _ (t : Transducer) (table : IsTable t) where
   courses_count [] k x = refl
   courses_count (s ∷ ss) k x = ap (λ n. suc n) (courses_count ss (suc k) x)
 
-  -- what stands at a place of the courses of states
+  -- at a place of the courses of states is the course of the state there
   pub course_there : (ss : List Row) (k q : ℕ) (c : Course) (x : List ℕ) → slice_get (courses_from t ss k x) q ≡ Some c → (s : Row) × (slice_get ss q ≡ Some s) × (c ≡ course_of t (k + q) s.registers x)
   course_there [] k q c x e = let bad : ⊥ = cc in absurd bad
   course_there (s ∷ ss) k zero c x e =
@@ -460,7 +460,7 @@ module _ (t : Transducer) (table : IsTable t) where
 pub in_range : (t : Transducer) (x : List ℕ) → IsSumInRange t x
 in_range t x table = record { each = sum_in_range t table x }
 
--- series: more of them behind two updates, and behind them
+-- a series that begins with two updates is the first, and after it the series from the second on
 pub series_then : (u v : Change) (vs : List Change) → series_of (then_update u v) vs ≡ then_update u (series_of v vs)
 series_then u v [] = refl
 series_then u v (w ∷ vs) = ap (λ z. series_of z vs) (then_then_update u v w) ∙ series_then u (then_update v w) vs

@@ -8,8 +8,8 @@ use Rattle.kex_machine.specs.Covering.{Best}
 use Rattle.kex_sst.specs.Tables.{Transducer}
 use Rattle.kex_sst.specs.Passes.{Pass, passes, whole_code}
 
--- along each text the table passes on what is told of it, and none where it can't go on; at its
--- end, the greedy code
+-- along each text the table passes on a code that is `Told` of it, and none where it can't go on;
+-- at its end, the greedy code
 pub record IsTableBy (Told : List ℕ → List Symbol → Type 0) (g : Graph)
     (t : Transducer) : Type 0 where
   pub goes_on : (w : List ℕ) (p : Pass) → passes t w ≡ Some p → Told w p.code
@@ -18,10 +18,10 @@ pub record IsTableBy (Told : List ℕ → List Symbol → Type 0) (g : Graph)
       → whole_code t p ≡ Some c → IsGreedy g w c
   pub cut : (w : List ℕ) (p : Pass) → passes t w ≡ Some p → whole_code t p ≡ None → ¬ HasRun g w
 
--- what the survivors agree on is told
+-- the table passes on what the survivors agree on
 abbrev pub IsTableOf : Graph → Transducer → Type 0
 IsTableOf g t = IsTableBy (Agreed (node_moves g.nodes) g.start) g t
 
--- what is best is told: what the survivors agree on that aren't covered
+-- the table passes on what is best: what the survivors that aren't covered agree on
 abbrev pub IsBestTableOf : Graph → Transducer → Type 0
 IsBestTableOf g t = IsTableBy (Best g) g t

@@ -85,15 +85,15 @@ pub record EachPart (P : Part → Type 0) (u : Change) : Type 0 where
   pub out : (x : Part) → IsAmong u.out x → P x
   pub regs : (xs : List Part) → IsAmong u.regs xs → (x : Part) → IsAmong xs x → P x
 
--- an update from so many registers to so many: each old register is used at most once
+-- an update over `from` old registers that gives `to` new ones: each old one is used at most once
 pub record IsUpdate (from to : ℕ) (u : Change) : Type 0 where
   pub count : length u.regs ≡ to
   pub once : Different (reads_of u)
   pub within : (i : ℕ) → IsAmong (reads_of u) i → i < from
   pub choices : EachPart PutsChoice u
 
--- what stands on the way to a leaf of a state with so many registers: each of them at most once,
--- and no byte that is read
+-- what is on the way to a leaf of a state with `count` registers: each of them at most once, and no
+-- byte that is read
 pub record IsWay (count : ℕ) (way : List Part) : Type 0 where
   pub once : Different (olds way)
   pub within : (i : ℕ) → IsAmong (olds way) i → i < count

@@ -1,4 +1,4 @@
--- Updates one behind another, and the one update that they come to.
+-- Updates one after another, and the one update that they come to.
 use Rattle.std.specs.Prelude.{ℕ, zero, suc, List, [], ◌∷◌, ◌++◌, get_or, map}
 use Rattle.kex_code.specs.declared.symbol.Symbol.TheVariants.{Byte}
 use Rattle.kex_sst.specs.declared.parts.Part.{Part}
@@ -22,7 +22,7 @@ substitute regs (Put s ∷ xs) = Put s ∷ substitute regs xs
 substitute regs (Old i ∷ xs) = get_or regs i [] ++ substitute regs xs
 substitute regs (Input ∷ xs) = Input ∷ substitute regs xs
 
--- what two updates come to, one behind the other
+-- what two updates come to, one after the other
 abbrev pub then_update : Change → Change → Change
 then_update u v = record {
   out = u.out ++ substitute u.regs v.out;
@@ -33,7 +33,7 @@ then_update u v = record {
 abbrev pub with_read : ℕ → Change → Change
 with_read b u = record { out = read_parts b u.out; regs = map (λ xs. read_parts b xs) u.regs }
 
--- so many registers from k on, each of them itself
+-- n registers from k on, each of them itself
 abbrev pub olds_from : ℕ → ℕ → List (List Part)
 olds_from k zero = []
 olds_from k (suc n) = (Old k ∷ []) ∷ olds_from (suc k) n
@@ -42,7 +42,7 @@ olds_from k (suc n) = (Old k ∷ []) ∷ olds_from (suc k) n
 abbrev pub identity : ℕ → Change
 identity n = record { out = []; regs = olds_from 0 n }
 
--- updates one behind another, the first by itself
+-- updates one after another, the first by itself
 abbrev pub series_of : Change → List Change → Change
 series_of u [] = u
 series_of u (v ∷ vs) = series_of (then_update u v) vs

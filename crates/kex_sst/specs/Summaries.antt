@@ -24,7 +24,7 @@ abbrev pub course_along : Transducer → ℕ → Course → List ℕ → Course
 course_along t n e [] = e
 course_along t n e (b ∷ x) = course_along t (suc n) (next_course t n e b) x
 
--- the course of a text from a state with so many registers
+-- the course of a text from a state that has `registers` registers
 abbrev pub course_of : Transducer → ℕ → ℕ → List ℕ → Course
 course_of t q registers x = course_along t 0 (Goes q (identity registers)) x
 
@@ -42,7 +42,7 @@ pub record Sum : Type 0 where
 abbrev pub sum_of : Transducer → List ℕ → Sum
 sum_of t x = record { bytes = length x; entries = courses_from t t.states 0 x }
 
--- n bytes and their update, and behind them a course from the state reached
+-- n bytes and their update, and after them a course from the state reached
 abbrev pub then_by : Option Course → ℕ → Change → Course
 then_by None n u = Gone n
 then_by (Some (Gone m)) n u = Gone (n + m)
@@ -52,15 +52,15 @@ abbrev pub then_of : ℕ → List Course → Course → Course
 then_of n others (Gone m) = Gone m
 then_of n others (Goes q u) = then_by (slice_get others q) n u
 
--- one summary, and another behind it
+-- one summary, and another after it
 abbrev pub then_sum : Sum → Sum → Sum
 then_sum s r = record {
   bytes = s.bytes + r.bytes;
   entries = map (λ e. then_of s.bytes r.entries e) s.entries;
 }
 
--- a text of so many bytes is left before its end, or leads to one of so many states, and its update
--- reads no byte
+-- a text of `bytes` bytes is left before its end, or leads to one of `states` states, and its
+-- update reads no byte
 abbrev pub IsCourseOf : ℕ → ℕ → Course → Type 0
 IsCourseOf bytes states (Gone n) = n < bytes
 IsCourseOf bytes states (Goes q u) = (q < states) × EachPart ReadsNothing u
@@ -75,13 +75,13 @@ abbrev pub passed_by : Course → Pass → Option Pass
 passed_by (Gone n) p = None
 passed_by (Goes q u) p = Some (pass_after u 0 p q)
 
--- an update of a course: each old register stands at most once, of so many, and it gives so many
+-- an update of a course: it has each of `from` old registers at most once, and gives `to` new ones
 pub record IsComposed (from to : ℕ) (u : Change) : Type 0 where
   pub count : length u.regs ≡ to
   pub once : Different (reads_of u)
   pub within : (i : ℕ) → IsAmong (reads_of u) i → i < from
 
--- the summary of two texts, one behind the other, is determined by theirs
+-- the summary of two texts, one after the other, is determined by theirs
 abbrev pub Determined : Transducer → List ℕ → List ℕ → Type 0
 Determined t x y = IsTable t → sum_of t (x ++ y) ≡ then_sum (sum_of t x) (sum_of t y)
 
@@ -90,7 +90,7 @@ abbrev pub DoesAsSaid : Transducer → List ℕ → Type 0
 DoesAsSaid t x = (p : Pass)
     → passes_if t (Some p) x ≡ passed_by (course_of t p.state (length p.registers) x) p
 
--- each register of a state stands at most once in the update of its course
+-- each register of a state comes at most once in the update of its course
 abbrev pub IsCopyless : Transducer → List ℕ → Type 0
 IsCopyless t x = IsTable t → (q q' : ℕ) (s : Row) (u : Change) → slice_get t.states q ≡ Some s
     → course_of t q s.registers x ≡ Goes q' u

@@ -33,7 +33,7 @@ abbrev pub IsWayIf : ℕ → Option (List Part) → Type 0
 IsWayIf count None = Unit {0}
 IsWayIf count (Some way) = IsWay count way
 
--- an update from so many registers leads to a state of the list, with as many lists as that has
+-- an update over `from` registers leads to a state of the list, with as many lists as that has
 -- registers
 pub record LeadsTo (states : List Row) (from target : ℕ) (u : Change) : Type 0 where
   pub row : Row

@@ -12,7 +12,8 @@ use std::alloc::Global;
 use std::marker::Model;
 use std::mem;
 
-/// Up to so many classes each have their own transition. Numbers would take more than they save.
+/// With no more classes than this, each has its own transition. Numbers would take more than they
+/// save.
 const FEW: usize = 8;
 
 // The numbers of few classes.
@@ -96,7 +97,7 @@ impl Fanned {
 }
 
 impl Fan {
-    /// No classes, with room for so many if they are few.
+    /// No classes yet, with room for `classes` if they are few.
     pub fn with_capacity(alloc: Global, classes: u16) -> Result<Fan, Memory>
         ensures { IfOk result (λ f. f ≡ []) }
     {
@@ -107,8 +108,8 @@ impl Fan {
         })
     }
 
-    /// The transitions of these parts: for so many classes the transition of the class's number, or
-    /// the first behind the last number.
+    /// The transitions of these parts: each class has the transition of its number, and a class
+    /// past the last number has the first.
     pub fn from_parts(
         alloc: Global,
         classes: u16,

@@ -1,7 +1,7 @@
 //! Tables: the streaming string transducers that stages run on, after the Kleenex paper (POPL
 //! 2016).
 //!
-//! Stands on byte sets, codes and the model's trees. A `Table` keeps in its type that no old
+//! Uses byte sets, codes and the model's trees. A `Table` keeps in its type that no old
 //! register is used twice in one update and that all numbers are in range; `specs/Passes` says what
 //! it passes on, and `next` reads it. A `Summary` has what a table does along a text from each of
 //! its states, as `specs/Summaries` says.

@@ -1,4 +1,4 @@
-// Updates one behind another.
+// Updates one after another.
 
 ghost use Rattle.std.specs.Prelude.{◌≡◌, IfOk, OnOk};
 ghost use Rattle.kex_sst.specs.Series.{series_of, then_update};
@@ -8,7 +8,7 @@ use kex_code::memory::Memory;
 use std::alloc::Global;
 use std::marker::Model;
 
-/// Updates one behind another, seen as the one update that they come to: in each behind the first
+/// Updates one after another, seen as the one update that they come to: in each after the first
 /// the old registers are those that the ones before it give. Series that end alike share their
 /// updates.
 #[derive(Drop)]
@@ -44,9 +44,7 @@ impl Series {
         (&self.first, &self.more)
     }
 
-    /// Puts an update behind those that are there.
-    ///
-    /// After `Memory` it is as before.
+    /// Puts an update after those that are there.
     pub fn push(&mut self, next: SharedUpdate) -> Result<(), Memory>
         ensures { OnOk result (self.new ≡ then_update self.old next) }
     {
@@ -54,7 +52,7 @@ impl Series {
         Ok(())
     }
 
-    // Puts more updates behind those that are there.
+    // Puts more updates after those that are there.
     fn push_all(&mut self, more: &[SharedUpdate]) -> Result<(), Memory>
         ensures { OnOk result (self.new ≡ series_of self.old more.now) }
     {
@@ -64,7 +62,7 @@ impl Series {
         Ok(())
     }
 
-    /// These updates, and another series behind them.
+    /// These updates, and then those of another series.
     pub fn then(&self, alloc: Global, other: &Series) -> Result<Series, Memory>
         ensures { IfOk result (λ s. s ≡ then_update self.now other.now) }
     {

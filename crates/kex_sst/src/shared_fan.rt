@@ -13,7 +13,7 @@ use std::marker::Model;
 #[derive(Drop)]
 pub(crate) struct SharedFan {
     classes: u16,
-    // By class, the number of its transition. A class behind the last has the first.
+    // By class, the number of its transition. A class past the last number has the first.
     numbers: Vec<u8>,
     different: Vec<Option<Transition>>,
 }
@@ -69,7 +69,7 @@ fn is_same(left: &Option<Transition>, right: &Option<Transition>) -> bool
     }
 }
 
-// Where a transition stands, if it is there.
+// Where a transition is, if it is there.
 fn find(all: &[Option<Transition>], transition: &Option<Transition>) -> Option<usize>
     ensures { IfSome result (λ at. slice_get all.now at ≡ Some transition.now) }
 {
@@ -114,8 +114,8 @@ impl SharedFan {
         }
     }
 
-    /// The transitions of these parts: for so many classes the transition of the class's number, or
-    /// the first behind the last number.
+    /// The transitions of these parts: each class has the transition of its number, and a class
+    /// past the last number has the first.
     pub(crate) fn from_parts(
         classes: u16,
         numbers: Vec<u8>,

@@ -5,8 +5,8 @@ ghost use Rattle.kex_sst.specs.Summaries.{Sum, Determined, DoesAsSaid, IsCopyles
 ghost use Rattle.kex_sst.specs.Summaries.{then_sum};
 ghost use Rattle.kex_sst.specs.Tables.{Transducer};
 
-/// The summary of two texts, one behind the other, is determined by theirs, and putting summaries
-/// one behind another is associative.
+/// The summary of two texts, one after the other, is determined by theirs, and putting summaries
+/// one after another is associative.
 pub fn join()
     ensures determined { (t : Transducer) (x y : List ℕ) → Determined t x y }
     ensures associative { (a b c : Sum)
@@ -18,7 +18,7 @@ pub fn say()
     ensures { (t : Transducer) (x : List ℕ) → DoesAsSaid t x }
 {}
 
-/// Each register of a state stands at most once in the update of its entry.
+/// Each register of a state comes at most once in the update of its entry.
 pub fn are_copyless()
     ensures { (t : Transducer) (x : List ℕ) → IsCopyless t x }
 {}

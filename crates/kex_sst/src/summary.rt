@@ -6,7 +6,7 @@ ghost use Rattle.kex_sst.specs.Summaries.{IsSum};
 use crate::series::Series;
 use std::marker::Model;
 
-/// What a table does along a text from a state: it stops behind so many bytes, or it goes to a
+/// What a table does along a text from a state: it stops after a number of bytes, or it goes to a
 /// state, with an update that reads no byte.
 #[derive(Drop)]
 pub enum Course {
@@ -16,8 +16,8 @@ pub enum Course {
 
 /// How long a text is, and its course from each state of a table.
 ///
-/// In a course that stops fewer bytes are taken than the text has. One that goes ends in a state of
-/// the table, and the bytes of the text stand in its update as symbols.
+/// In a course that stops, fewer bytes are taken than the text has. One that goes ends in a state
+/// of the table, and its update has the bytes of the text as symbols.
 #[derive(Drop)]
 pub struct Summary {
     bytes: u64,

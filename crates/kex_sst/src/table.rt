@@ -55,7 +55,7 @@ impl State {
         self.registers
     }
 
-    /// What stands on the way to the leaf at which a text may end, if there is one.
+    /// What is on the way to the leaf at which a text may end, if there is one.
     pub fn accepting(&self) -> Option<&Parts>
         ensures { MatchOption result (self.now.accepting ≡ None) (λ parts. self.now.accepting
             ≡ Some parts.now) }

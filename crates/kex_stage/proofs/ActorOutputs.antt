@@ -50,7 +50,7 @@ finishes false o a b start code symbols before after none same mb h took = recor
       (x.0, says g b (mb ∙ f.machine) took.settled (f.code ++ h.more) (text ++ took.went.more) done w x.1);
 }
 
--- what was told is performed by pieces
+-- what the oracle told is performed by pieces
 module _ (o new : Oracle) (a b : Position) (piece : List ℕ) (count : ℕ) (said : List Symbol) (before after : List ℕ) (mb : b.machine ≡ a.machine) (h : Tells o new piece count [] said) (p : PerformsSaid a b said before after) where
   module _ (tell : Telling) (g : Graph) (w text : List ℕ) (f : Followed tell g o a w text) (v : IsViableFor g w) where
     heard : HearsOn tell g new w piece count (f.code ++ said)
@@ -75,7 +75,7 @@ module _ (o new : Oracle) (a b : Position) (piece : List ℕ) (count : ℕ) (sai
         };
   }
 
-  -- and behind the last good byte the actor does what needs no symbol
+  -- and after the last good byte the actor does what needs no symbol
   pub stops : (c : Position) (last : List ℕ) → count < length piece → c.machine ≡ b.machine → TookAll b c [] after last → StageWorks o new a c piece count before last
   stops c last lt mc took = record {
     within = omega (arith, lt);

@@ -84,7 +84,7 @@ went_next f old g piece i lt h new by = record {
   good = λ w c fed v. subst (λ z. IsViableFor g z) (next_byte w piece i lt) (by (w ++ take i piece) c (h.fed w c fed v)).0;
 }
 
--- what a frontier's paths agree on is told
+-- the oracle tells what a frontier's paths agree on
 pub paths_tell : (f mid new : Front) (n m : ℕ) (piece : List ℕ) (count : ℕ) (told before after : List Symbol) → mid.machine ≡ f.machine → new.machine ≡ mid.machine → after ≡ before ++ told → count ≤ length piece → OracleReads f mid piece count → ((w : List ℕ) (c : List Symbol) → IsFed mid w c → IsFed new w (c ++ told) × IsSaid mid.machine w (c ++ told)) → Tells (Paths (record { frontier = f; read = n })) (Paths (record { frontier = new; read = m })) piece count before after
 paths_tell f mid new n m piece count told before after m1 m2 e within reads takes = record {
   more = told;
@@ -126,7 +126,7 @@ paths_tell f mid new n m piece count told before after m1 m2 e within reads take
           agrees = agrees g (w ++ take count piece) (c ++ told) r.survivor (agreed_at g w c r said);
         }
 
--- what is told at the end
+-- what the paths tell at the end
 pub paths_end : (answer : Ended) (f mid : Front) (n : ℕ) (told before after : List Symbol) → mid.machine ≡ f.machine → told ≡ mid.untaken → after ≡ before ++ told → ((w : List ℕ) (c : List Symbol) → IsFed f w c → IsOver answer mid w c) → TellsEnd (is_parsed answer) (Paths (record { frontier = f; read = n })) before after
 paths_end Parsed f mid n told before after m is e over = record {
   more = told;

@@ -77,7 +77,7 @@ fed_stands Dead r w c h = h.1
 no_end : (t : Transducer) (o : Option Pass) (p : Pass) → o ≡ Some p → HasNoEnd t o → whole_code t p ≡ None
 no_end t o p e h = subst (λ z. HasNoEnd t z) e h
 
--- what a runner passes on along a piece is told
+-- the oracle tells what a runner passes on along a piece
 pub table_tells : (answer : Fed) (f0 f1 : Follower) (piece : List ℕ) (count : ℕ) (before after : List Symbol) → f1.moves ≡ f0.moves → f1.runner.table ≡ f0.runner.table → RunnerFeeds answer f0.runner f1.runner piece before after → f1.runner.read ≡ f0.runner.read + count → count ≤ length piece → Tells (Table f0) (Table f1) piece count before after
 table_tells answer f0 f1 piece count before after moves same f read within = record {
   more = f.more;
@@ -122,7 +122,7 @@ table_tells answer f0 f1 piece count before after moves same f read within = rec
               agrees = subst (λ z. Agrees k g z (c ++ f.more)) here agrees;
             }
 
--- what a runner passes on at the end is told
+-- the oracle tells what a runner passes on at the end
 pub table_ends : (f : Follower) (before after : List Symbol) → RunnerEnds Parsed f.runner before after → TellsEnd true (Table f) before after
 table_ends f before after e = record {
   more = e.more;
@@ -146,13 +146,13 @@ table_cut f before after e = record {
       p.longest;
 }
 
--- all that was to be told was told
+-- the oracle has told all that there was to tell
 pub table_told : (f : Follower) (k : Telling) (g : Graph) (w : List ℕ) (c : List Symbol) → f.runner.pending ≡ [] → Hears k g (Table f) w c → IsViableFor g w → Agrees k g w c
 table_told f k g w c none h v =
     let live = still_live k g f.runner.table h.0 h.1 f.runner w c refl h.3 v in
     subst (λ z. Agrees k g w z) (ap (λ z. c ++ z) none ∙ append-nil c) (table_agrees k g f.runner.table h.0 h.1 w (pass_of f.runner c) live.passes)
 
--- what was told is told whatever else the follower keeps
+-- a follower tells the same whatever else it keeps
 pub still_tells : (o : Oracle) (f n : Follower) (piece : List ℕ) (count : ℕ) (before after : List Symbol) → n.runner ≡ f.runner → n.moves ≡ f.moves → Tells o (Table f) piece count before after → Tells o (Table n) piece count before after
 still_tells o f n piece count before after runner moves t = record {
   more = t.more;

@@ -73,7 +73,7 @@ works_more o m n a b c p q count x y z first then lt = record {
       };
 }
 
--- what stands behind a byte that is refused doesn't matter
+-- what comes after a byte that is refused doesn't matter
 pub works_longer : (o n : Oracle) (a b : Position) (p rest : List ℕ) (count : ℕ) (x y : List ℕ) → count < length p → StageWorks o n a b p count x y → StageWorks o n a b (p ++ rest) count x y
 works_longer o n a b p rest count x y lt h = record {
   within = omega (arith, length-append p rest, lt);
@@ -133,7 +133,7 @@ runs_go f new a b q count bs before after none no_registers moves table mb long 
       };
 }
 
--- a part is run, and a part read behind it
+-- a part is run, and a part after it is read
 pub strides : (refused : Bool) (o m n : Oracle) (a b c : Position) (piece next rest : List ℕ) (ran count : ℕ) (x y z : List ℕ) → piece ≡ take ran piece ++ (next ++ rest) → ran ≤ length piece → count ≤ length next → StageGoes o m a b (take ran piece) x y → HasGone refused m n b c next count y z → HasGone refused o n a c piece (ran + count) x z
 strides true o m n a b c piece next rest ran count x y z is le within first then =
     let lt : count < length next = then.0 in

@@ -31,7 +31,7 @@ pub if_fault : {T : Type 0} (r : Result T StageFault) (fault : StageFault) (Q : 
 if_fault (Ok x) fault Q is h = tt
 if_fault (Err e) fault Q is h = subst Q (sym is) h
 
--- what is told begins a run's code
+-- what the oracle tells begins a run's code
 told_begins : {k : Telling} {g : Graph} {w : List ℕ} {c : List Symbol} (a : Position) → a.machine ≡ g → Agrees k g w c → BeginsRun a.machine c
 told_begins {c = c} a same h = subst (λ m. BeginsRun m c) (sym same) (h.run, h.runs, h.begins)
 
@@ -42,11 +42,11 @@ end_begins true k g w c a same h =
     subst (λ m. BeginsRun m c) (sym same) (path.0, (h.greedy.0, path.1.walk, h.greedy.1), ([], path.2 ∙ sym (append-nil c)))
 end_begins false k g w c a same h = told_begins a same h.1
 
--- what is put behind nothing
+-- what is put after nothing
 put_behind : (start code symbols more : List Symbol) → start ≡ [] → symbols ≡ code → code ≡ start ++ more → symbols ≡ more
 put_behind start code symbols more none same e = same ∙ e ∙ ap (λ z. z ++ more) none
 
--- nothing is refused of what is told of a piece
+-- the actor refuses nothing that the oracle tells of a piece
 pub told_none : (o new : Oracle) (a : Position) (piece : List ℕ) (count : ℕ) (start code symbols : List Symbol) (fault : StageFault) → start ≡ [] → symbols ≡ code → Tells o new piece count start code → (fault ≡ faults.Refused → RefusesCode a symbols) → RefusesNone o a fault
 told_none o new a piece count start code symbols fault none same h refuses = λ k g w text f v.
     let x = h.tells k g w f.code f.hears v in
@@ -60,7 +60,7 @@ end_none parsed o a start code symbols fault none same h refuses = λ k g w text
     let begins = subst (λ z. BeginsRun a.machine (f.code ++ z)) (sym (put_behind start code symbols h.more none same h.code)) (end_begins parsed k g w (f.code ++ h.more) a f.machine x) in
     by_fault fault (λ e. refuses e f.code f.code text f.performed begins)
 
--- where nothing is told nothing is refused
+-- where the oracle tells nothing the actor refuses nothing
 pub rest_none : (f : Follower) (a : Position) (fault : StageFault) → (fault ≡ faults.Refused → RefusesCode a []) → RefusesNone (Table f) a fault
 rest_none f a fault refuses = λ k g w text fol v.
     let h = fol.hears in
@@ -70,7 +70,7 @@ rest_none f a fault refuses = λ k g w text fol v.
     let begins = begins_front a.machine (c ++ []) (c ++ f.runner.pending) told (f.runner.pending, ap (λ z. z ++ f.runner.pending) (sym (append-nil c))) in
     by_fault fault (λ e. refuses e c c text fol.performed begins)
 
--- nor behind what was performed of it
+-- nor after what it performed of that
 pub past_none : (o new : Oracle) (a b : Position) (piece : List ℕ) (count : ℕ) (said : List Symbol) (before after : List ℕ) (fault : StageFault) → b.machine ≡ a.machine → Tells o new piece count [] said → PerformsSaid a b said before after → (fault ≡ faults.Refused → RefusesCode b []) → RefusesNone o a fault
 past_none o new a b piece count said before after fault mb h p refuses = λ k g w text f v.
     let x = h.tells k g w f.code f.hears v in
@@ -80,7 +80,7 @@ past_none o new a b piece count said before after fault mb h p refuses = λ k g 
     let still = subst (λ z. BeginsRun b.machine z) (sym (append-nil code)) (subst (λ m. BeginsRun m code) (sym mb) begins) in
     by_fault fault (λ e. refuses e code code (text ++ went.more) (went.performed f.code f.code text f.performed) still)
 
--- nothing is refused behind a front that both went along
+-- nothing is refused after a front that both went along
 pub none_on : (o m : Oracle) (a b : Position) (p before after : List ℕ) (fault : StageFault) → StageGoes o m a b p before after → RefusesNone m b fault → RefusesNone o a fault
 none_on o m a b p before after fault goes none = λ k g w text f v.
     let h = goes.goes k g w text f v in

@@ -71,7 +71,7 @@ pub take_all : {A : Type 0} (xs : List A) → take (length xs) xs ≡ xs
 take_all [] = refl
 take_all (x ∷ xs) = ap (λ z. x ∷ z) (take_all xs)
 
--- behind a text, the first bytes of a piece begin one more of them
+-- after a text, the first bytes of a piece begin one more of them
 pub more_taken : (w : List ℕ) (k : ℕ) (xs : List ℕ) → Begins (w ++ take (k + 1) xs) (w ++ take k xs)
 more_taken w k xs =
     let d = shorter_front xs (take k xs) (take (k + 1) xs) (drop k xs, sym (take-append-drop k xs)) (drop (k + 1) xs, sym (take-append-drop (k + 1) xs)) (omega (arith, length-take k xs, length-take (k + 1) xs)) in

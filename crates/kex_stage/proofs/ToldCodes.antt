@@ -1,4 +1,4 @@
--- What holds of a code that is told, be it agreed or best.
+-- What holds of a code that an oracle tells, be it agreed or best.
 use Rattle.std.proofs.Common.{◌≡◌, ℕ, List, ◌++◌, Option, Some, None, refl}
 use Rattle.std.specs.Prelude.{IfSome}
 use Rattle.kex_code.specs.declared.symbol.Symbol.{Symbol}
@@ -13,12 +13,12 @@ use Rattle.kex_stage.specs.Plans.{IsTableAs, IsTableFor, ToldBy}
 use Rattle.kex_stage.specs.declared.plan.Telling.{Telling}
 use Rattle.kex_stage.specs.declared.plan.Telling.TheVariants as telling
 
--- what something is told of can go on
+-- a text can go on if there is a code to tell of it
 pub viable_told : (k : Telling) (g : Graph) (w : List ℕ) (c : List Symbol) → ToldBy k g w c → IsViableFor g w
 viable_told telling.Agreed g w c h = h.viable
 viable_told telling.Best g w c h = h.viable
 
--- the greedy code of a longer text begins with what is told
+-- the greedy code of a longer text begins with the code that an oracle tells
 pub greedy_told : (k : Telling) (g : Graph) (w v : List ℕ) (c d : List Symbol) → ToldBy k g w c → IsGreedy g (w ++ v) d → Begins d c
 greedy_told telling.Agreed g w v c d h greedy = agreed_greedy (node_moves g.nodes) g.start w v c d h greedy.greedy
 greedy_told telling.Best g w v c d h greedy = best_greedy g w v c d h greedy
@@ -30,7 +30,7 @@ table_for telling.Agreed g (Some t) h = h
 table_for telling.Best g None h = absurd h
 table_for telling.Best g (Some t) h = h
 
--- without a table what is agreed is told
+-- a plan without a table tells what is agreed
 pub told_without : (k : Telling) (g : Graph) → IsTableFor k g None → k ≡ telling.Agreed
 told_without telling.Agreed g h = refl
 told_without telling.Best g h = absurd h

@@ -56,7 +56,7 @@ learnt_of (Table f) g = f.moves.machine
 abbrev pub HasSurvivor : Graph → List ℕ → Type 0
 HasSurvivor g w = (q : ℕ) × (c : List Symbol) × Survives (node_moves g.nodes) g.start w q c
 
--- c is told of w, and the code of some run begins with it whose text begins with w
+-- an oracle tells c of w; it begins the code of some run, and w begins that run's text
 pub record Agrees (k : Telling) (g : Graph) (w : List ℕ) (c : List Symbol) : Type 0 where
   pub told : ToldBy k g w c
   pub run : List (Step ℕ)
@@ -64,7 +64,7 @@ pub record Agrees (k : Telling) (g : Graph) (w : List ℕ) (c : List Symbol) : T
   pub begins : Begins (code_of run) c
   pub reads : Begins (bytes_of (code_of run)) w
 
--- of a piece behind w so many bytes are good; where that is all of it, c is told
+-- of a piece after w `count` bytes are good; where that is all of it, the oracle has told c
 pub record HearsOn (k : Telling) (g : Graph) (o : Oracle) (w piece : List ℕ) (count : ℕ)
     (c : List Symbol) : Type 0 where
   pub hears : count ≡ length piece → Hears k g o (w ++ piece) c
@@ -72,7 +72,7 @@ pub record HearsOn (k : Telling) (g : Graph) (o : Oracle) (w piece : List ℕ) (
   pub bad : count < length piece → ¬ IsViableFor g (w ++ take (count + 1) piece)
   pub agrees : Agrees k g (w ++ take count piece) c
 
--- the oracle was fed a piece, and has told what is to be told
+-- the oracle was fed a piece, and has told what there is to tell
 pub record Tells (old new : Oracle) (piece : List ℕ) (count : ℕ)
     (before after : List Symbol) : Type 0 where
   pub more : List Symbol
@@ -81,7 +81,7 @@ pub record Tells (old new : Oracle) (piece : List ℕ) (count : ℕ)
   pub tells : (k : Telling) (g : Graph) (w : List ℕ) (c : List Symbol) → Hears k g old w c
       → IsViableFor g w → HearsOn k g new w piece count (c ++ more)
 
--- what the end shows behind w: a parse, of which c is the greedy code, or none
+-- what the end shows after w: a parse, of which c is the greedy code, or none
 abbrev pub ShowsEnd : Bool → Telling → Graph → List ℕ → List Symbol → Type 0
 ShowsEnd true k g w c = IsGreedy g w c
 ShowsEnd false k g w c = (¬ HasRun g w) × Agrees k g w c
@@ -93,8 +93,8 @@ pub record TellsEnd (parsed : Bool) (old : Oracle) (before after : List Symbol) 
   pub tells : (k : Telling) (g : Graph) (w : List ℕ) (c : List Symbol) → Hears k g old w c
       → IsViableFor g w → ShowsEnd parsed k g w (c ++ more)
 
--- going by paths, so many bytes of a piece behind w are good: the frontier was fed them, and the
--- byte behind them, if there is one
+-- going by paths, `count` bytes of a piece after w are good: the frontier was fed them, and the
+-- byte after them, if there is one
 pub record ReadsOn (f : Front) (g : Graph) (w piece : List ℕ) (count : ℕ)
     (c : List Symbol) : Type 0 where
   pub good : IsViableFor g (w ++ take count piece)

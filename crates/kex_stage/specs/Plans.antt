@@ -13,13 +13,13 @@ use Rattle.kex_runner.specs.Quiet.{IsGuide}
 use Rattle.kex_stage.specs.declared.plan.Telling.{Telling}
 use Rattle.kex_stage.specs.declared.plan.Telling.TheVariants as telling
 
--- a stage's machine, its table, if it has one, and what is told of a text
+-- a stage's machine, its table, if it has one, and what its oracle tells of a text
 pub record Planned : Type 0 where
   pub machine : Graph
   pub table : Option Transducer
   pub telling : Telling
 
--- by what a stage works: a machine, and what is told of a text
+-- by what a stage works: a machine, and what its oracle tells of a text
 pub record Teller : Type 0 where
   pub machine : Graph
   pub telling : Telling
@@ -33,7 +33,7 @@ teller k g = record { machine = g; telling = k }
 abbrev pub teller_of : Planned → Teller
 teller_of p = teller p.telling p.machine
 
--- these machines, of each of which this is told
+-- these machines, each with an oracle that tells this
 abbrev pub tellers : Telling → List Graph → List Teller
 tellers k machines = map (λ m. teller k m) machines
 
@@ -41,7 +41,7 @@ tellers k machines = map (λ m. teller k m) machines
 abbrev pub AllTell : Telling → List Planned → Type 0
 AllTell k plans = (p : Planned) → IsAmong plans p → p.telling ≡ k
 
--- this code is told of a text
+-- an oracle tells this code of a text
 abbrev pub ToldBy : Telling → Graph → List ℕ → List Symbol → Type 0
 ToldBy telling.Agreed g = Agreed (node_moves g.nodes) g.start
 ToldBy telling.Best g = Best g
@@ -64,11 +64,11 @@ abbrev pub IsTableIf : Graph → Option Transducer → Type 0
 IsTableIf g None = Unit {0}
 IsTableIf g (Some t) = IsTableOf g t
 
--- the table passes on what is told
+-- the table passes on what the oracle is to tell
 abbrev pub IsTableAs : Telling → Graph → Transducer → Type 0
 IsTableAs k g t = IsTableBy (ToldBy k g) g t
 
--- so does a plan's table; where what is best is told, there is one
+-- so does a plan's table; where the oracle is to tell what is best, there is one
 abbrev pub IsTableFor : Telling → Graph → Option Transducer → Type 0
 IsTableFor telling.Agreed g o = IsTableIf g o
 IsTableFor telling.Best g None = ⊥

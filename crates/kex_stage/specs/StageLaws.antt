@@ -13,7 +13,7 @@ use Rattle.kex_stage.specs.Stages.{TellerAnswers}
 use Rattle.kex_stage.specs.declared.plan.Telling.{Telling}
 use Rattle.kex_stage.specs.declared.plan.Telling.TheVariants as telling
 
--- what is said grows, whatever is told
+-- what is said grows, whatever an oracle tells
 pub told_orderly : (k : Telling) (g : Graph)
     → Orderly (IsViableFor g) (SaysAs k g) (HasRun g) (MeansByRun g)
 told_orderly telling.Agreed g = orderly g

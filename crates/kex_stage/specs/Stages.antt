@@ -12,7 +12,7 @@ use Rattle.kex_stage.specs.Plans.{IsTableAs, SaysAs, Teller, teller}
 use Rattle.kex_stage.specs.Oracles.{read_of}
 use Rattle.kex_stage.specs.Works.{Followed}
 
--- a machine with what is told, and the most bytes that it takes
+-- a machine with what the oracle tells, and the most bytes that it takes
 abbrev pub StagePlan : Type 0
 StagePlan = BoundedPlan Teller
 
@@ -48,7 +48,7 @@ pub record WorkerState : Type 0 where
 abbrev pub teller_in : WorkerState → Teller
 teller_in s = teller s.telling s.actor.machine
 
--- the number of the byte behind so many good ones, where it was refused
+-- the number of the byte after the good ones, where it was refused
 abbrev pub refused_at : Bool → ℕ → Option ℕ
 refused_at true good = Some good
 refused_at false good = None

@@ -19,7 +19,7 @@ pub record Followed (k : Telling) (g : Graph) (o : Oracle) (a : Position)
   pub performed : HasPerformed a code code out
   pub machine : a.machine ≡ g
 
--- of a piece behind w, on which text was written, so many bytes are good, and what is said is
+-- of a piece after w, on which text was written, `count` bytes are good, and what is said is
 -- written
 pub record WorksOn (k : Telling) (g : Graph) (o : Oracle) (a : Position)
     (w text piece : List ℕ) (count : ℕ) (before after : List ℕ) : Type 0 where
@@ -30,7 +30,7 @@ pub record WorksOn (k : Telling) (g : Graph) (o : Oracle) (a : Position)
   pub bad : count < length piece → ¬ IsViableFor g (w ++ take (count + 1) piece)
   pub says : SaysAs k g (w ++ take count piece) (text ++ more)
 
--- oracle and actor went along a piece, of which so many bytes are good
+-- oracle and actor went along a piece, of which `count` bytes are good
 pub record StageWorks (old new : Oracle) (a b : Position) (piece : List ℕ) (count : ℕ)
     (before after : List ℕ) : Type 0 where
   pub within : count ≤ length piece
@@ -38,12 +38,12 @@ pub record StageWorks (old new : Oracle) (a b : Position) (piece : List ℕ) (co
       → IsViableFor g w → WorksOn k g new b w text piece count before after
 
 -- where oracle and actor have followed a text that can go on, the fault is want of memory: nothing
--- that is told is refused
+-- that the oracle tells is refused
 abbrev pub RefusesNone : Oracle → Position → StageFault → Type 0
 RefusesNone o a fault = (k : Telling) (g : Graph) (w text : List ℕ) → Followed k g o a w text
     → IsViableFor g w → fault ≡ faults.Memory
 
--- bytes behind w are good, and more is written
+-- bytes after w are good, and more is written
 pub record GoesOn (k : Telling) (g : Graph) (o : Oracle) (a : Position)
     (w text piece before after : List ℕ) : Type 0 where
   pub more : List ℕ

@@ -115,7 +115,7 @@ impl<'p> Oracle<'p> {
         }
     }
 
-    // Takes the end, and puts the rest of the code behind a code. Tells whether the bytes have a
+    // Takes the end, and puts the rest of the code after a code. Tells whether the bytes have a
     // parse.
     fn end(&mut self, code: &mut Code) -> Result<bool, Memory>
         requires ready { IsReady self.old }

@@ -64,7 +64,7 @@ impl<'p> Paths<'p> {
         Ok(())
     }
 
-    // Puts what the paths agree on along a piece behind a code, and tells how many bytes are good.
+    // Puts what the paths agree on along a piece after a code, and tells how many bytes are good.
     fn hear(&mut self, piece: &[u8], code: &mut Code) -> Result<usize, Memory>
         requires usable { IsTrue self.old.frontier.usable }
         requires open { self.old.frontier.ended ≡ false }
@@ -84,7 +84,7 @@ impl<'p> Paths<'p> {
         Ok(count)
     }
 
-    /// Tells whether the paths end, and puts what is then agreed behind a code.
+    /// Tells whether the paths end, and puts what they agree on then after a code.
     pub fn end(&mut self, code: &mut Code) -> Result<bool, Memory>
         requires usable { IsTrue self.old.frontier.usable }
         requires open { self.old.frontier.ended ≡ false }

@@ -13,7 +13,7 @@ use kex_code::symbol::Symbol;
 /// Why an oracle and an actor don't go on.
 #[derive(Clone, Copy, Debug, PartialEq, Eq, Drop)]
 pub enum StageFault {
-    /// The actor refused a symbol of what the oracle told. It refuses none where the two have
+    /// The actor refused a symbol that the oracle told. It refuses none where the two have
     /// followed a text that can go on: `RefusesNone`.
     Refused,
     /// No contract says when this comes.
@@ -31,7 +31,7 @@ impl From<Memory> for StageFault {
     }
 }
 
-/// Performs what was told.
+/// Performs what the oracle told.
 pub fn speak(actor: &mut Actor, symbols: &[Symbol], out: &mut Vec<u8>) -> Result<(), StageFault>
     requires { IsTrue actor.old.usable }
     ensures took { OnOk result

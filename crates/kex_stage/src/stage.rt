@@ -20,8 +20,8 @@ use kex_pipe::worker::{BeginsAnew, Worker};
 use std::alloc::Global;
 use std::marker::Model;
 
-/// Works over the plan that it borrows: bytes come in pieces, and what is told of them by the plan
-/// goes out at once, as what the surviving paths agree on.
+/// Works over the plan that it borrows: bytes come in pieces, and what the plan's oracle tells of
+/// them goes out at once, as what the surviving paths agree on.
 #[derive(Drop)]
 pub struct StageWorker<'p> {
     oracle: Oracle<'p>,
@@ -114,7 +114,7 @@ impl<'p> BeginsAnew for StageWorker<'p> {
     }
 }
 
-// The number of the byte behind the good ones, where that was refused.
+// The number of the byte after the good ones, where that was refused.
 fn refused_at(refused: bool, good: u64) -> Option<u64>
     ensures { result ≡ refused_at refused good }
 {
@@ -129,7 +129,7 @@ pub struct Stage<'p> {
 }
 
 impl<'p> Stage<'p> {
-    /// A stage that has read nothing, and takes at most so many bytes.
+    /// A stage that has read nothing, and takes at most `max_input` bytes.
     pub fn new(alloc: Global, plan: &'p Plan, max_input: u64) -> Result<Stage<'p>, Memory>
         ensures plan { IfOk result (λ s. ⟦<Stage<'p> as Turn>⟧.plan s
             ≡ record { machine = teller_of plan.now; limit = max_input }) }

@@ -18,14 +18,14 @@ use kex_runner::Ended;
 // How many bytes are read at most by the runner at once.
 const HELD: usize = 4096;
 
-// So many bytes are good, and the byte behind them was refused or not.
+// How many bytes are good, and whether the byte after them was refused.
 #[derive(Clone, Copy)]
 struct Stride {
     count: usize,
     refused: bool,
 }
 
-// So many bytes were taken, of which so many are good: all, or all but the last.
+// How many bytes were taken, and how many of them are good: all, or all but the last.
 #[derive(Clone, Copy)]
 struct Heard {
     taken: usize,
@@ -59,7 +59,7 @@ impl<'p> Follower<'p> {
         })
     }
 
-    /// Tells whether the table ends, and puts what is passed on then behind a code.
+    /// Tells whether the table ends, and puts what is passed on then after a code.
     pub fn end(&mut self, code: &mut Code) -> Result<bool, Memory>
         requires usable { IsTrue self.old.runner.usable }
         requires open { self.old.runner.ended ≡ false }

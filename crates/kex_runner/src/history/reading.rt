@@ -16,7 +16,7 @@ use kex_script::ids::{ListId, WordId};
 use kex_script::piece::ByteWord;
 use kex_script::script::Tail;
 
-/// A list that is still to be read, over what the registers were after so many notes.
+/// A list that is still to be read, over what the registers were after a number of notes.
 #[derive(Clone, Copy)]
 pub struct Unread {
     pub list: ListId,
@@ -73,8 +73,8 @@ fn or_pop(next: Option<Unread>, pending: &mut Vec<Unread>) -> Option<Unread>
 }
 
 impl<'h> History<'h> {
-    // What a register holds after so many notes is to be read: the list that the last of them gives
-    // it, or the settled register at once.
+    // What a register holds after a number of notes is to be read: the list that the last of them
+    // gives it, or the settled register at once.
     #[inline(always)]
     pub fn ask(
         &self,

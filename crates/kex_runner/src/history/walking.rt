@@ -156,7 +156,7 @@ fn walk_known(
     place
 }
 
-// What was read is put behind pieces, in its order. Where there are none it isn't copied.
+// What was read is put after the pieces, in its order. Where there are no pieces it isn't copied.
 fn hand_on(back: &mut Vec<ByteWord>, pieces: &mut Vec<ByteWord>) -> Result<(), Memory>
     ensures { OnOk result (pieces.new.items ≡ pieces.old.items ++ reverse back.old.items) }
 {
@@ -169,7 +169,7 @@ fn hand_on(back: &mut Vec<ByteWord>, pieces: &mut Vec<ByteWord>) -> Result<(), M
     Ok(())
 }
 
-// Makes room for so many pieces.
+// Makes room for `count` pieces.
 #[inline(never)]
 fn grow(room: &mut Vec<ByteWord>, count: usize) -> Result<(), Memory>
     ensures { OnOk result (count ≤ length room.new.items) }
@@ -178,7 +178,7 @@ fn grow(room: &mut Vec<ByteWord>, count: usize) -> Result<(), Memory>
     Ok(())
 }
 
-// There is room for so many pieces.
+// There is room for `count` pieces.
 #[inline(always)]
 fn make_room(room: &mut Vec<ByteWord>, count: usize) -> Result<(), Memory>
     ensures { OnOk result (count ≤ length room.new.items) }
@@ -228,7 +228,7 @@ impl<'h> History<'h> {
         Ok(place)
     }
 
-    // Reads a part of a way, over what the registers were after so many notes.
+    // Reads a part of a way, over what the registers were after a number of notes.
     fn read_old(&self, after: usize, part: Part, reading: &mut Reading) -> Result<(), Memory>
         requires { after ≤ length self.now.notes.now }
         ensures { OnOk result (AreOlds (part ∷ [])
@@ -263,7 +263,7 @@ impl<'h> History<'h> {
         Ok(())
     }
 
-    // Puts behind pieces what a list stands for, which is read from its end.
+    // Puts after the pieces what a list stands for. It is read from its end.
     #[inline(never)]
     fn pass_read(
         &self,
@@ -280,7 +280,7 @@ impl<'h> History<'h> {
         hand_on(&mut reading.back, pieces)
     }
 
-    // Puts behind pieces what a way stands for after so many notes, and then what was said.
+    // Puts after the pieces what a way stands for after a number of notes, and then what was said.
     #[inline(never)]
     fn pass_way(
         &self,
@@ -304,7 +304,7 @@ impl<'h> History<'h> {
         hand_on(&mut reading.back, pieces)
     }
 
-    // Puts behind pieces what a way and the pieces behind it stand for.
+    // Puts after the pieces what a way and the pieces that come after it stand for.
     #[inline(never)]
     fn pass_rest(
         &self,
@@ -338,7 +338,7 @@ impl<'h> History<'h> {
         self.pass_way(place.after, way, said, reading, pieces)
     }
 
-    // Puts behind pieces what a way and a word stand for.
+    // Puts after the pieces what a way and a word stand for.
     fn pass_split(
         &self,
         ways: &mut Ways,
@@ -375,7 +375,7 @@ impl<'h> History<'h> {
         self.pass_rest(ways, place, &mut scratch.reading, room, pieces)
     }
 
-    /// Puts behind pieces what a list stands for, by ways where it is one.
+    /// Puts after the pieces what a list stands for, by ways where it is one.
     pub fn pass_list(
         &self,
         ways: &mut Ways,

@@ -80,7 +80,7 @@ impl Registers {
         }
     }
 
-    // What parts stand for, in pieces that stand last first.
+    // What parts stand for, in pieces that are kept last first.
     fn read_parts(&mut self, script: &Script, parts: &[Part]) -> Result<Settled, Memory>
         ensures read { IfOk result (λ s. spelled_back script.now.words s
             ≡ parts_code (contents script.now self.old) 0 parts.now) }

@@ -34,7 +34,7 @@ impl<'t> Runner<'t> {
         self.dead
     }
 
-    // Goes to a state by updates, past so many bytes.
+    // Goes past bytes to a state, by updates.
     fn go_by(
         &mut self,
         target: u32,

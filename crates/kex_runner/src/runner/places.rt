@@ -1,4 +1,4 @@
-// The place where a runner stands, as another that was over the same table can come to it.
+// The place where a runner is, as another that was over the same table can come to it.
 
 ghost use Rattle.std.specs.Prelude.{◌≡◌, [], IsTrue, false};
 ghost use Rattle.kex_runner.specs.Following.{IsTablePlace};
@@ -7,8 +7,8 @@ ghost use Rattle.kex_runner.specs.Places.{StandsAt};
 use crate::runner::Runner;
 
 impl<'t> Runner<'t> {
-    /// Stands at a state without registers, as if so many bytes had been read. What was passed on
-    /// isn't known of it then.
+    /// Begins anew at a state without registers, as if `read` bytes had been read. What was passed
+    /// on isn't known of it then.
     pub fn restart(&mut self, state: u32, read: u64)
         requires place { IsTablePlace self.old.table state [] }
         ensures restarted { self.new ≡ record self.old {
@@ -28,8 +28,8 @@ impl<'t> Runner<'t> {
         self.ended = false;
     }
 
-    /// Whether it stands at this state without registers, has read so many bytes, of which none was
-    /// refused, and has nothing to be passed on.
+    /// Whether it is at this state without registers, has read this number of bytes, none of which
+    /// was refused, and has nothing to be passed on.
     pub fn stands_at(&self, state: u32, read: u64) -> bool
         ensures { IsTrue result → StandsAt self.now state read }
     {

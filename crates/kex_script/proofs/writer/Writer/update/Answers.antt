@@ -12,7 +12,7 @@ the_place c = let long = ap (λ (z : Pages). length z.rows) c.self.view_is in om
 abbrev begun : goal.After-share → Pages
 begun c = record { words = c.self.inside.words; lists = c.self.inside.lists; tails = c.self.inside.tails.items; rows = c.push.new.self }
 
--- the row as it was put behind the others
+-- the row as it was put after the others
 written : (c : goal.After-share) → IsRow c.put_all.new.self c.in-Ok.at c.args.update.now
 written c =
     let u : Change = c.args.update.now in
@@ -32,7 +32,7 @@ grown c =
     } in
     grows_on (subst (λ z. PagesGrow z (begun c)) c.self.view_is pushed) (grows_on c.in_ok-put.ensures.grown c.in_ok-put_all.ensures.grown)
 
--- the pages where the row is gone, if an equal one stood before it
+-- the pages without the row, if an equal one was found before it
 abbrev after : goal.After-share → Pages
 after c = record { words = c.self-2.inside.words; lists = c.self-2.inside.lists; tails = c.self-2.inside.tails.items; rows = c.share.new.self }
 
