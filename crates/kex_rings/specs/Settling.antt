@@ -1,5 +1,6 @@
 -- What it is to work off all that waits, step by step.
-use Rattle.std.specs.Prelude.{◌≡◌, ◌++◌, ◌⊎◌, [], ◌∷◌, true, false, ℕ, List, All, IsTrue}
+use Rattle.std.specs.Prelude.{◌≡◌, ◌<◌, ◌++◌, ◌⊎◌, [], ◌∷◌, true, false, ℕ, List, All, IsTrue}
+use Rattle.std.specs.Prelude.{Some, slice_get}
 use Rattle.kex_model.specs.Schedules.{StreamItem, Progress, Event, Turned, After}
 use Rattle.kex_pipe.specs.Events.{bytes_given, end_given}
 use Rattle.kex_pipe.specs.Seats.{IsWhole, Sits}
@@ -80,3 +81,7 @@ module _ {T : Type 0} (t : Ghosts T) where
   -- each had a turn, and nothing waits before one
   abbrev pub AllAtRest : List (Seat T t) → Type 0
   AllAtRest ss = All (λ s. (s.staged.turned ≡ true) × IsEmpty s.inbox) ss
+
+  -- nothing waits before a stage after this one
+  abbrev pub NoneWaitsAfter : ℕ → List (Seat T t) → Type 0
+  NoneWaitsAfter i ss = (k : ℕ) (s : Seat T t) → i < k → slice_get ss k ≡ Some s → IsEmpty s.inbox

@@ -8,7 +8,7 @@ ghost use Rattle.kex_rings.specs.Ends.{AreBeside, seen_in};
 ghost use Rattle.kex_rings.specs.Items.{items_as};
 ghost use Rattle.kex_rings.specs.Looking.{AllRingSeatsUsable, IsEmpty};
 ghost use Rattle.kex_rings.specs.Settling.{Gathers, GathersAll, HandsOn, StageSteps, LineWorks};
-ghost use Rattle.kex_rings.specs.Settling.{AllSeatsUsable, AllAtRest};
+ghost use Rattle.kex_rings.specs.Settling.{AllSeatsUsable, AllAtRest, NoneWaitsAfter};
 ghost use Rattle.kex_rings.specs.Lines.{Joined, AreNew, HaveRings, LineSettles};
 
 use crate::item::Item;
@@ -115,6 +115,7 @@ fn step<T: Turn>(seats: &mut [Seat<T>], made: &mut Inbox, i: usize) -> Result<()
 fn last_waiting<T: Turn>(seats: &[Seat<T>]) -> Option<usize>
     ensures within { IfSome result (λ i. i < length seats.now) }
     ensures none { result ≡ None → All (λ s. IsEmpty s.inbox) seats.now }
+    ensures last { IfSome result (λ i. NoneWaitsAfter T.Turn i seats.now) }
 {
     for i in (0..seats.len()).rev() {
         if !seats[i].inbox.is_empty() {
@@ -141,6 +142,7 @@ fn first_unturned<T: Turn>(seats: &[Seat<T>]) -> Option<usize>
 fn next_stage<T: Turn>(seats: &[Seat<T>]) -> Option<usize>
     ensures within { IfSome result (λ i. i < length seats.now) }
     ensures none { result ≡ None → AllAtRest T.Turn seats.now }
+    ensures last { IfSome result (λ i. NoneWaitsAfter T.Turn i seats.now) }
 {
     match last_waiting(seats) {
         Some(i) => Some(i),
