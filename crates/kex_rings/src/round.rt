@@ -28,71 +28,81 @@ use kex_ports::Gate;
 use rtrb::{Consumer, Producer};
 use std::thread::{Threads, join_mut};
 
-// A stage's looks, between its entering the gate and its leaving it.
-fn work_one<T: Turn, G: Gate>(
-    gate: &G,
-    stage: u32,
-    seat: &mut RingSeat<T>,
-    looks: u32,
-    room: u32,
-) -> Result<(), Memory>
-    requires usable { IsTrue seat.old.seat.usable }
-    requires some { 0 < looks }
-    ensures usable { OnOk result (IsTrue seat.new.seat.usable) }
-    ensures looks { OnOk result (Looks T.Turn room seat.old seat.new seat.new.took) }
-{
-    gate.enter(stage);
-    let worked = seat.work(looks, u64::from(room));
-    gate.leave(stage);
-    seat.took = worked?;
-    Ok(())
-}
-
-// What some stages are to do, the first of which has this number.
+// Looks that some stages are to make, the first of which has this number. Each takes as many items
+// in a look as there is room for.
 #[derive(Drop)]
 struct LookTask<'g, G: Gate> {
     gate: &'g G,
     first: u32,
     looks: u32,
+    room: u32,
+}
+
+impl<'g, G: Gate> LookTask<'g, G> {
+    // The same for the stages after the first ones, of which there are `count`.
+    fn after(&self, count: u32) -> LookTask<'g, G>
+        requires { self.now.first + count < 2 ^ 32 }
+        ensures first { result.first ≡ self.now.first + count }
+        ensures same { (result.looks ≡ self.now.looks) × (result.room ≡ self.now.room) }
+    {
+        LookTask {
+            gate: self.gate,
+            first: self.first + count,
+            looks: self.looks,
+            room: self.room,
+        }
+    }
+
+    // The looks of the first stage, between its entering the gate and its leaving it.
+    fn work<T: Turn>(&self, seat: &mut RingSeat<T>) -> Result<(), Memory>
+        requires usable { IsTrue seat.old.seat.usable }
+        requires some { 0 < self.now.looks }
+        ensures usable { OnOk result (IsTrue seat.new.seat.usable) }
+        ensures looks { OnOk result
+            (Looks T.Turn self.now.room seat.old seat.new seat.new.took) }
+    {
+        self.gate.enter(self.first);
+        let worked = seat.work(self.looks, u64::from(self.room));
+        self.gate.leave(self.first);
+        seat.took = worked?;
+        Ok(())
+    }
 }
 
 // The looks of these stages.
 fn work_all<R: Threads + Sync, T: Turn + Send, G: Gate + Sync>(
     rt: &R,
     task: &LookTask<'_, G>,
-    room: u32,
     seats: &mut [RingSeat<T>],
 ) -> Result<(), Memory>
     requires { (task.now.first + length seats.old ≤ 2 ^ 32) × (0 < task.now.looks)
         × AllRingSeatsUsable T.Turn seats.old }
-    ensures { WorkedAll T.Turn room (is_ok result) seats.old seats.new }
+    ensures { WorkedAll T.Turn task.now.room (is_ok result) seats.old seats.new }
 {
     if seats.len() < 2 {
         return match seats.first_mut() {
             None => Ok(()),
-            Some(seat) => work_one(task.gate, task.first, seat, task.looks, room),
+            Some(seat) => task.work(seat),
         };
     }
     let half = seats.len() / 2;
-    let next = LookTask {
-        gate: task.gate,
-        first: task.first + half as u32,
-        looks: task.looks,
-    };
-    let behind = &next;
+    let rest = task.after(half as u32);
+    let next = &rest;
     let (front, back) = seats.split_at_mut(half);
     let (one, other) = join_mut(
         rt,
         &mut || -> Result<(), Memory>
             requires { IsSync R.row × (task.now.first + length front.now ≤ 2 ^ 32)
                 × (0 < task.now.looks) × AllRingSeatsUsable T.Turn front.now }
-            ensures { WorkedAll T.Turn room (is_ok result) front.entry.now front.exit.now }
-        { work_all(rt, task, room, front) },
+            ensures { WorkedAll T.Turn task.entry.now.room (is_ok result) front.entry.now
+                front.exit.now }
+        { work_all(rt, task, front) },
         &mut || -> Result<(), Memory>
-            requires { IsSync R.row × (behind.now.first + length back.now ≤ 2 ^ 32)
-                × (0 < behind.now.looks) × AllRingSeatsUsable T.Turn back.now }
-            ensures { WorkedAll T.Turn room (is_ok result) back.entry.now back.exit.now }
-        { work_all(rt, behind, room, back) },
+            requires { IsSync R.row × (next.now.first + length back.now ≤ 2 ^ 32)
+                × (0 < next.now.looks) × AllRingSeatsUsable T.Turn back.now }
+            ensures { WorkedAll T.Turn next.entry.now.room (is_ok result) back.entry.now
+                back.exit.now }
+        { work_all(rt, next, back) },
     );
     one?;
     other
@@ -185,35 +195,29 @@ fn carry_out<T: Turn>(seats: &mut [RingSeat<T>], output: &mut Inbox) -> Result<(
 // A round of these stages.
 fn run<R: Threads + Sync, T: Turn + Send, G: Gate + Sync>(
     rt: &R,
-    gate: &G,
-    looks: u32,
-    room: u32,
+    task: &LookTask<'_, G>,
     seats: &mut [RingSeat<T>],
     output: &mut Inbox,
     counts: &mut Vec<u64>,
 ) -> Result<(), Memory>
-    requires few { length seats.old < 2 ^ 32 }
+    requires few { task.now.first + length seats.old ≤ 2 ^ 32 }
     requires some { 0 < length seats.old }
-    requires looks { 0 < looks }
+    requires looks { 0 < task.now.looks }
     requires usable { AllRingSeatsUsable T.Turn seats.old }
-    requires joined { Joined T.Turn (AreBeside room) None seats.old }
+    requires joined { Joined T.Turn (AreBeside task.now.room) None seats.old }
     requires rings { HaveRings T.Turn seats.old }
     ensures usable { OnOk result (AllRingSeatsUsable T.Turn seats.new) }
-    ensures joined { OnOk result (Joined T.Turn (AreBeside room) None seats.new) }
+    ensures joined { OnOk result (Joined T.Turn (AreBeside task.now.room) None seats.new) }
     ensures rings { OnOk result (HaveRings T.Turn seats.new) }
     ensures count { OnOk result (length seats.new ≡ length seats.old) }
     ensures counts { OnOk result (length counts.new.items ≡ length seats.old) }
     ensures turns { OnOk result
         (LineRounds T.Turn seats.old output.old seats.new output.new counts.new.items) }
-    ensures gets_on { OnOk result (AllGetOn T.Turn room seats.old seats.new counts.new.items) }
+    ensures gets_on { OnOk result
+        (AllGetOn T.Turn task.now.room seats.old seats.new counts.new.items) }
     ensures hand { OnErr result (unread_bytes output.new ≡ unread_bytes output.old) }
 {
-    let task = LookTask {
-        gate,
-        first: 1,
-        looks,
-    };
-    work_all(rt, &task, room, seats)?;
+    work_all(rt, task, seats)?;
     gather(seats, counts)?;
     look_beside_all(seats);
     carry_out(seats, output)
@@ -256,16 +260,13 @@ pub fn ring_round<R: Threads + Sync, T: Turn + Drop + Send, G: Gate + Sync>(
         return Err(PipeFault::Spent);
     }
     pipe.begins();
-    let room = pipe.room;
-    match run(
-        rt,
+    let task = LookTask {
         gate,
+        first: 1,
         looks,
-        room,
-        &mut pipe.seats,
-        &mut pipe.output,
-        counts,
-    ) {
+        room: pipe.room,
+    };
+    match run(rt, &task, &mut pipe.seats, &mut pipe.output, counts) {
         Ok(()) => Ok(()),
         Err(Memory) => {
             pipe.spent = true; // its stages may only be dropped

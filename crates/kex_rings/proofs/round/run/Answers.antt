@@ -11,7 +11,7 @@ use Rattle.kex_rings.proofs.round.run.Goals as goal
 pub look_beside_all-requires-clause-paired : goal.look_beside_all-requires-clause-paired
 look_beside_all-requires-clause-paired g c =
     let t = g.T.Turn in
-    let room = c.args.room in
+    let room = c.args.task.now.room in
     let old = c.args.seats.now in
     let w = c.work_all.new.seats in
     (room, joined-kept t room None None old w (map (λ s. s.took) w) tt (joined-pairs t room None old c.requires.joined) (c.work_all.ensures.looks (ap is_ok c.in_ok-work_all.was)))
@@ -22,8 +22,8 @@ returns-clause-usable g c = on-ok c.carry_out.result (λ out.
     let w = c.work_all.new.seats in
     let mid = c.look_beside_all.new.seats in
     let done : is_ok c.work_all.result ≡ true = ap is_ok c.in_ok-work_all.was in
-    let work : EachLooks g.T.Turn c.args.room c.args.seats.now c.work_all.new.seats (map (λ s. s.took) c.work_all.new.seats) × AllRingSeatsUsable g.T.Turn c.work_all.new.seats = (c.work_all.ensures.looks done, c.work_all.ensures.usable done) in
-    let sizes = looks-length t c.args.room c.args.seats.now w (map (λ s. s.took) w) work.0 in
+    let work : EachLooks g.T.Turn c.args.task.now.room c.args.seats.now c.work_all.new.seats (map (λ s. s.took) c.work_all.new.seats) × AllRingSeatsUsable g.T.Turn c.work_all.new.seats = (c.work_all.ensures.looks done, c.work_all.ensures.usable done) in
+    let sizes = looks-length t c.args.task.now.room c.args.seats.now w (map (λ s. s.took) w) work.0 in
     let ended = ended-by mid (omega (arith, c.requires.some, sizes.0, c.look_beside_all.ensures.count)) in
     let o = out ended.front ended.last ended.is in
     subst (λ z. AllRingSeatsUsable t z) (sym o.is) (usable-out t ended.front ended.last o.s' o.same_usable (subst (λ z. AllRingSeatsUsable t z) ended.is (usable-looked t w mid c.look_beside_all.ensures.looked work.1)))) c.carry_out.ensures.out
@@ -31,12 +31,12 @@ returns-clause-usable g c = on-ok c.carry_out.result (λ out.
 pub returns-clause-joined : goal.returns-clause-joined
 returns-clause-joined g c = on-ok c.carry_out.result (λ out.
     let t = g.T.Turn in
-    let room = c.args.room in
+    let room = c.args.task.now.room in
     let old = c.args.seats.now in
     let w = c.work_all.new.seats in
     let mid = c.look_beside_all.new.seats in
     let done : is_ok c.work_all.result ≡ true = ap is_ok c.in_ok-work_all.was in
-    let work : EachLooks g.T.Turn c.args.room c.args.seats.now c.work_all.new.seats (map (λ s. s.took) c.work_all.new.seats) × AllRingSeatsUsable g.T.Turn c.work_all.new.seats = (c.work_all.ensures.looks done, c.work_all.ensures.usable done) in
+    let work : EachLooks g.T.Turn c.args.task.now.room c.args.seats.now c.work_all.new.seats (map (λ s. s.took) c.work_all.new.seats) × AllRingSeatsUsable g.T.Turn c.work_all.new.seats = (c.work_all.ensures.looks done, c.work_all.ensures.usable done) in
     let sizes = looks-length t room old w (map (λ s. s.took) w) work.0 in
     let joined = c.look_beside_all.ensures.beside room (joined-kept t room None None old w (map (λ s. s.took) w) tt (joined-pairs t room None old c.requires.joined) work.0) in
     let ended = ended-by mid (omega (arith, c.requires.some, sizes.0, c.look_beside_all.ensures.count)) in
@@ -46,25 +46,25 @@ returns-clause-joined g c = on-ok c.carry_out.result (λ out.
 pub returns-clause-count : goal.returns-clause-count
 returns-clause-count g c =
     let w = c.work_all.new.seats in
-    let sizes = looks-length g.T.Turn c.args.room c.args.seats.now w (map (λ s. s.took) w) (c.work_all.ensures.looks (ap is_ok c.in_ok-work_all.was)) in
+    let sizes = looks-length g.T.Turn c.args.task.now.room c.args.seats.now w (map (λ s. s.took) w) (c.work_all.ensures.looks (ap is_ok c.in_ok-work_all.was)) in
     on-ok c.carry_out.result (λ out. c.carry_out.ensures.count ∙ c.look_beside_all.ensures.count ∙ sizes.0) c.carry_out.ensures.out
 
 pub returns-clause-counts : goal.returns-clause-counts
 returns-clause-counts g c =
     let w = c.work_all.new.seats in
-    let sizes = looks-length g.T.Turn c.args.room c.args.seats.now w (map (λ s. s.took) w) (c.work_all.ensures.looks (ap is_ok c.in_ok-work_all.was)) in
+    let sizes = looks-length g.T.Turn c.args.task.now.room c.args.seats.now w (map (λ s. s.took) w) (c.work_all.ensures.looks (ap is_ok c.in_ok-work_all.was)) in
     on-ok c.carry_out.result (λ out. ap length c.in_ok-gather.ensures ∙ sizes.1) c.carry_out.ensures.out
 
 pub returns-clause-turns : goal.returns-clause-turns
 returns-clause-turns g c = on-ok c.carry_out.result (λ out.
     let t = g.T.Turn in
-    let room = c.args.room in
+    let room = c.args.task.now.room in
     let old = c.args.seats.now in
     let w = c.work_all.new.seats in
     let mid = c.look_beside_all.new.seats in
     let cs = c.gather.new.counts.items in
     let done : is_ok c.work_all.result ≡ true = ap is_ok c.in_ok-work_all.was in
-    let work : EachLooks g.T.Turn c.args.room c.args.seats.now c.work_all.new.seats (map (λ s. s.took) c.work_all.new.seats) × AllRingSeatsUsable g.T.Turn c.work_all.new.seats = (c.work_all.ensures.looks done, c.work_all.ensures.usable done) in
+    let work : EachLooks g.T.Turn c.args.task.now.room c.args.seats.now c.work_all.new.seats (map (λ s. s.took) c.work_all.new.seats) × AllRingSeatsUsable g.T.Turn c.work_all.new.seats = (c.work_all.ensures.looks done, c.work_all.ensures.usable done) in
     let sizes = looks-length t room old w (map (λ s. s.took) w) work.0 in
     let joined = c.look_beside_all.ensures.beside room (joined-kept t room None None old w (map (λ s. s.took) w) tt (joined-pairs t room None old c.requires.joined) work.0) in
     let ended = ended-by mid (omega (arith, c.requires.some, sizes.0, c.look_beside_all.ensures.count)) in
@@ -74,13 +74,13 @@ returns-clause-turns g c = on-ok c.carry_out.result (λ out.
 pub returns-clause-gets_on : goal.returns-clause-gets_on
 returns-clause-gets_on g c = on-ok c.carry_out.result (λ out.
     let t = g.T.Turn in
-    let room = c.args.room in
+    let room = c.args.task.now.room in
     let old = c.args.seats.now in
     let w = c.work_all.new.seats in
     let mid = c.look_beside_all.new.seats in
     let cs = c.gather.new.counts.items in
     let done : is_ok c.work_all.result ≡ true = ap is_ok c.in_ok-work_all.was in
-    let work : EachLooks g.T.Turn c.args.room c.args.seats.now c.work_all.new.seats (map (λ s. s.took) c.work_all.new.seats) × AllRingSeatsUsable g.T.Turn c.work_all.new.seats = (c.work_all.ensures.looks done, c.work_all.ensures.usable done) in
+    let work : EachLooks g.T.Turn c.args.task.now.room c.args.seats.now c.work_all.new.seats (map (λ s. s.took) c.work_all.new.seats) × AllRingSeatsUsable g.T.Turn c.work_all.new.seats = (c.work_all.ensures.looks done, c.work_all.ensures.usable done) in
     let sizes = looks-length t room old w (map (λ s. s.took) w) work.0 in
     let ended = ended-by mid (omega (arith, c.requires.some, sizes.0, c.look_beside_all.ensures.count)) in
     let o = out ended.front ended.last ended.is in
@@ -90,13 +90,13 @@ returns-clause-gets_on g c = on-ok c.carry_out.result (λ out.
 pub returns-clause-rings : goal.returns-clause-rings
 returns-clause-rings g c = on-ok c.carry_out.result (λ out.
     let t = g.T.Turn in
-    let room = c.args.room in
+    let room = c.args.task.now.room in
     let old = c.args.seats.now in
     let w = c.work_all.new.seats in
     let mid = c.look_beside_all.new.seats in
     let cs = c.gather.new.counts.items in
     let done : is_ok c.work_all.result ≡ true = ap is_ok c.in_ok-work_all.was in
-    let work : EachLooks g.T.Turn c.args.room c.args.seats.now c.work_all.new.seats (map (λ s. s.took) c.work_all.new.seats) × AllRingSeatsUsable g.T.Turn c.work_all.new.seats = (c.work_all.ensures.looks done, c.work_all.ensures.usable done) in
+    let work : EachLooks g.T.Turn c.args.task.now.room c.args.seats.now c.work_all.new.seats (map (λ s. s.took) c.work_all.new.seats) × AllRingSeatsUsable g.T.Turn c.work_all.new.seats = (c.work_all.ensures.looks done, c.work_all.ensures.usable done) in
     let sizes = looks-length t room old w (map (λ s. s.took) w) work.0 in
     let ended = ended-by mid (omega (arith, c.requires.some, sizes.0, c.look_beside_all.ensures.count)) in
     let o = out ended.front ended.last ended.is in
