@@ -24,22 +24,41 @@ use std::thread::{Threads, join_mut};
 // each.
 const MOST_STATES: usize = 64;
 
-// The summary of a part, which is made between its entering the gate and its leaving it.
-fn work_one<G: Gate>(
+// How parts of a piece are summed up, the first of which has this number.
+#[derive(Drop)]
+struct SumTask<'s, G: Gate> {
     alloc: Global,
-    table: &Table,
-    gate: &G,
-    part: u32,
-    piece: &[u8],
-    slot: &mut Option<Summary>,
-) -> Result<(), Memory>
-    ensures { OnOk result (AreSummaries table.now piece.now (slot.new ∷ [])) }
-{
-    gate.enter(part);
-    let made = chunk(alloc, table, piece);
-    gate.leave(part);
-    *slot = Some(made?);
-    Ok(())
+    table: &'s Table,
+    gate: &'s G,
+    first: u32,
+}
+
+impl<'s, G: Gate> SumTask<'s, G> {
+    // The same for the parts after the first ones, of which there are `count`.
+    fn after(&self, count: u32) -> SumTask<'s, G>
+        requires { self.now.first + count < 2 ^ 32 }
+        ensures first { result.first ≡ self.now.first + count }
+        ensures table { result.table.now ≡ self.now.table.now }
+    {
+        SumTask {
+            alloc: self.alloc,
+            table: self.table,
+            gate: self.gate,
+            first: self.first + count,
+        }
+    }
+
+    // The summary of the first part, which is made between its entering the gate and its leaving
+    // it.
+    fn work(&self, piece: &[u8], slot: &mut Option<Summary>) -> Result<(), Memory>
+        ensures { OnOk result (AreSummaries self.now.table.now piece.now (slot.new ∷ [])) }
+    {
+        self.gate.enter(self.first);
+        let made = chunk(self.alloc, self.table, piece);
+        self.gate.leave(self.first);
+        *slot = Some(made?);
+        Ok(())
+    }
 }
 
 // The bytes of the first parts: any two parts differ by one byte at most.
@@ -51,65 +70,64 @@ fn share_of(bytes: usize, parts: usize, first: usize) -> usize
     share.saturating_add((bytes % parts).min(first)).min(bytes)
 }
 
-// The summaries of the parts of a piece, as many as there are slots; the first has this number.
+// The summaries of the parts of a piece, as many as there are slots.
 fn work_all<R: Threads + Sync, G: Gate + Sync>(
     rt: &R,
-    alloc: Global,
-    table: &Table,
-    gate: &G,
-    first: u32,
+    task: &SumTask<'_, G>,
     piece: &[u8],
     slots: &mut [Option<Summary>],
 ) -> Result<(), Memory>
     requires some { 0 < length slots.old }
-    requires few { first + length slots.old ≤ 2 ^ 32 }
-    ensures { OnOk result (AreSummaries table.now piece.now slots.new) }
+    requires few { task.now.first + length slots.old ≤ 2 ^ 32 }
+    ensures { OnOk result (AreSummaries task.now.table.now piece.now slots.new) }
 {
     let count = slots.len();
     if count < 2 {
         return match slots.first_mut() {
             None => Ok(()),
-            Some(slot) => work_one(alloc, table, gate, first, piece, slot),
+            Some(slot) => task.work(piece, slot),
         };
     }
     let half = count / 2;
-    let next = first + half as u32;
+    let rest = task.after(half as u32);
+    let next = &rest;
     let (here, there) = piece.split_at(share_of(piece.len(), count, half));
     let (front, back) = slots.split_at_mut(half);
     let (one, other) = join_mut(
         rt,
         &mut || -> Result<(), Memory>
             requires { IsSync R.row × (0 < length front.now)
-                × (first + length front.now ≤ 2 ^ 32) }
-            ensures { OnOk result (AreSummaries table.entry.now here.entry.now front.exit.now) }
-        { work_all(rt, alloc, table, gate, first, here, front) },
+                × (task.now.first + length front.now ≤ 2 ^ 32) }
+            ensures { OnOk result
+                (AreSummaries task.entry.now.table.now here.entry.now front.exit.now) }
+        { work_all(rt, task, here, front) },
         &mut || -> Result<(), Memory>
             requires { IsSync R.row × (0 < length back.now)
-                × (next + length back.now ≤ 2 ^ 32) }
-            ensures { OnOk result (AreSummaries table.entry.now there.entry.now back.exit.now) }
-        { work_all(rt, alloc, table, gate, next, there, back) },
+                × (next.now.first + length back.now ≤ 2 ^ 32) }
+            ensures { OnOk result
+                (AreSummaries next.entry.now.table.now there.entry.now back.exit.now) }
+        { work_all(rt, next, there, back) },
     );
     one?;
     other
 }
 
-// The summaries of the parts of a piece.
+// The summaries of this many parts of a piece.
 fn summaries_of<R: Threads + Sync, G: Gate + Sync>(
     rt: &R,
-    alloc: Global,
-    table: &Table,
-    gate: &G,
+    task: &SumTask<'_, G>,
     piece: &[u8],
     parts: usize,
 ) -> Result<Vec<Option<Summary>>, Memory>
-    requires { (0 < parts) × (parts ≤ 64) }
-    ensures { IfOk result (λ all. AreSummaries table.now piece.now all.items) }
+    requires some { 0 < parts }
+    requires few { task.now.first + parts ≤ 2 ^ 32 }
+    ensures { IfOk result (λ all. AreSummaries task.now.table.now piece.now all.items) }
 {
-    let mut all = Vec::new(alloc);
+    let mut all = Vec::new(task.alloc);
     'parts: for _part in 0..parts {
         all.push(None)?;
     }
-    work_all(rt, alloc, table, gate, 1, piece, &mut all)?;
+    work_all(rt, task, piece, &mut all)?;
     Ok(all)
 }
 
@@ -225,7 +243,13 @@ pub fn feed_many<R: Threads + Sync, G: Gate + Sync>(
     if piece.is_empty() || runner.is_dead() || table.states().len() > MOST_STATES {
         return feed_plainly(runner, piece, code);
     }
+    let task = SumTask {
+        alloc,
+        table,
+        gate,
+        first: 1,
+    };
     let parts = piece.len().min(workers as usize);
-    let summaries = summaries_of(rt, alloc, table, gate, piece, parts)?;
+    let summaries = summaries_of(rt, &task, piece, parts)?;
     apply_all(runner, &summaries, piece, code)
 }
