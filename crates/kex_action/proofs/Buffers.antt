@@ -48,7 +48,7 @@ joined-more (q ∷ ps) zero p regs h e = ap (λ x. pieces_text (x ∷ []) regs) 
 joined-more (Lit s ∷ ps) (suc i) p regs h e = ap (λ x. s ++ x) (joined-more ps i p regs (omega arith) e) ∙ sym (append_assoc s _ _)
 joined-more (Register r ∷ ps) (suc i) p regs h e = ap (λ x. get_or regs r [] ++ x) (joined-more ps i p regs (omega arith) e) ∙ sym (append_assoc (get_or regs r []) _ _)
 
--- the slice behind the first
+-- the slice after the first
 pub behind_first : {A : Type 0} (xs : List A) (x : A) (rest : List A) → xs ≡ x ∷ rest → take (length xs - 1) (drop 1 xs) ≡ rest
 behind_first [] x rest e = cc
 behind_first (y ∷ ys) x rest e = let n : length (y ∷ ys) - 1 ≡ length ys = omega arith in ap (λ k. take k ys) n ∙ take-length ys ∙ tails e

@@ -52,7 +52,7 @@ leads_on nodes s m t c d st st' st'' p q = record {
   did = ap (λ x. after_steps (p.steps ++ q.steps) (x ++ d) st) (sym p.codes) ∙ after_steps-append p.steps q.steps d st ∙ ap (λ x. after_steps q.steps d (after_steps p.steps x st)) p.codes ∙ ap (λ z. after_steps q.steps d z) p.did ∙ q.did;
 }
 
--- a walk of so many steps without a symbol
+-- a walk of that many steps without a symbol
 pub record Going (nodes : List MNode) (s : ℕ) (before : ActingState) (n t : ℕ) (after : ActingState) : Type 0 where
   pub leads : LeadsByCode nodes s before [] t after
   pub count : length leads.steps ≡ n

@@ -1,4 +1,4 @@
--- What stands on a sheet, effect by effect.
+-- What is on a sheet, effect by effect.
 use Rattle.std.proofs.Common.{◌≡◌, ℕ, zero, suc, ◌≤◌, ◌<◌, ◌+◌, ◌-◌, List, [], ◌∷◌, ◌++◌, length, get_or, take, drop, reverse, refl, sym, ap, ap₂, subst, ◌∙◌, arith, append_assoc, append-nil, Result, Ok, Err, IfOk}
 use Rattle.std.proofs.Math.Seq.{take-add, take-length}
 use Rattle.std.proofs.lemmas.List.{take_more, take-append-drop, take-append-le, drop-append-le, take-take, drop-take, reverse-append, length-take-le}
@@ -34,7 +34,7 @@ adds_registers : (xs out : List ℕ) (bs : List (List ℕ)) (regs : Registers) �
 adds_registers xs out [] regs = refl
 adds_registers xs out (b ∷ bs) regs = refl
 
--- nothing stands on it
+-- nothing is on it
 pub laid_none : (s : ActingState) → with_marked_bytes [] [] s ≡ s
 laid_none s = adds_none s.out s.buffers s.registers
 
@@ -116,7 +116,7 @@ next_mark used ms i d a h =
     let r = marks_behind used (reverse (drop (i + 1) ms)) (m ∷ reverse (take i ms)) (subst (λ l. AreMarks used l) whole a) in
     record { within = omega (arith, r.1, r.2.0); marks = r.2.1; behind = last_within m (reverse (take i ms)) r.2.1; more = more }
 
--- what stands up to a place is handed on
+-- what there is up to a place is handed on
 pub handed : (bytes ds : List ℕ) (from to : ℕ) (s z z' : ActingState) → from ≡ last_of ds → AreMarks to ds → to ≤ length bytes → z ≡ with_marked_bytes (take from bytes) ds s → z' ≡ with_bytes (take (to - from) (drop from bytes)) z → z' ≡ with_marked_bytes (take to bytes) ds s
 handed bytes ds from to s z z' e a h was is =
     let le : from ≤ to = omega (arith, e, last_within to ds a) in
@@ -144,7 +144,7 @@ opened s s' out h sheet marks bytes used =
     ∙ ap (λ ms. with_marked_bytes (take s.used s.bytes.items) ms z) (ap reverse marks ∙ reversed s.marks.items s.used)
     ∙ laid_opens (take s.used s.bytes.items) (reverse s.marks.items) s.used z (sym (length-take-le s.used s.bytes.items sheet.used))
 
--- what stood before the innermost buffer, and the buffer
+-- what was before the innermost buffer, and the buffer
 closed : (s s' : Sheet) (z : ActingState) → ClosesBuffer s s' → with_marked_bytes (take s.used s.bytes.items) (reverse s.marks.items) z ≡ with_marked_bytes (take s.used s.bytes.items) (s'.used ∷ reverse s'.marks.items) z
 closed s s' z c = ap (λ ms. with_marked_bytes (take s.used s.bytes.items) ms z) (ap reverse c.marks ∙ reversed s'.marks.items s'.used)
 

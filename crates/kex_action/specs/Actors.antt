@@ -8,7 +8,7 @@ use Rattle.kex_machine.specs.Nodes.{Graph, node_moves}
 use Rattle.kex_machine.specs.Answers.{start_state, IsRun, left_by}
 use Rattle.kex_action.specs.Holdings.{Holding, state_of, Rests, LeadsByCode}
 
--- an actor: its machine, the node where it stands, what it holds, whether it was given what is no
+-- an actor: its machine, the node where it is, what it holds, whether it was given what is no
 -- code, and whether no call has answered want of memory
 pub record Position : Type 0 where
   pub machine : Graph

@@ -1,4 +1,4 @@
--- What stands after a fault.
+-- What holds after a fault.
 use Rattle.std.specs.Prelude.{ℕ, List}
 use Rattle.kex_code.specs.declared.symbol.Symbol.{Symbol}
 use Rattle.kex_action.specs.declared.fault.ActFault.{ActFault}

@@ -1,4 +1,4 @@
--- What stands on a sheet, and what it makes of a state.
+-- What is on a sheet, and what it makes of a state.
 use Rattle.std.specs.Prelude.{◌≡◌, ℕ, ◌≤◌, List, [], ◌∷◌, ◌++◌, take, drop, length, reverse}
 use Rattle.kex_model.specs.Acting.{ActingState}
 use Rattle.kex_action.specs.declared.sheet.Sheet.{Sheet}
@@ -8,14 +8,14 @@ use Rattle.kex_action.specs.Holdings.{Holding, with_bytes, state_of}
 abbrev pub with_buffer : List ℕ → ActingState → ActingState
 with_buffer b s = record { out = s.out; buffers = b ∷ s.buffers; registers = s.registers }
 
--- bytes with marks among them, the last one first: from each mark on they stand in a buffer that is
+-- bytes with marks among them, the last one first: from each mark on they are in a buffer that is
 -- opened there
 abbrev pub with_marked_bytes : List ℕ → List ℕ → ActingState → ActingState
 with_marked_bytes bytes [] s = with_bytes bytes s
 with_marked_bytes bytes (m ∷ ms) s =
     with_buffer (drop m bytes) (with_marked_bytes (take m bytes) ms s)
 
--- marks among so many bytes, the last one first
+-- marks among that many bytes, the last one first
 abbrev pub AreMarks : ℕ → List ℕ → Type 0
 AreMarks used [] = Unit {0}
 AreMarks used (m ∷ ms) = (m ≤ used) × AreMarks m ms
@@ -30,12 +30,12 @@ abbrev pub state_with : Sheet → List ℕ → Holding → ActingState
 state_with s out h =
     with_marked_bytes (take s.used s.bytes.items) (reverse s.marks.items) (state_of out h)
 
--- bytes are written behind those that are used
+-- bytes are written after those that are used
 pub record Writes (old new : Sheet) (bytes : List ℕ) : Type 0 where
   pub used : take new.used new.bytes.items ≡ take old.used old.bytes.items ++ bytes
   pub marks : new.marks.items ≡ old.marks.items
 
--- the last mark is taken away, and what stands from there on doesn't count
+-- the last mark is taken away, and what comes from there on doesn't count
 pub record ClosesBuffer (old new : Sheet) : Type 0 where
   pub marks : old.marks.items ≡ new.marks.items ++ new.used ∷ []
   pub kept : new.bytes.items ≡ old.bytes.items
@@ -45,7 +45,7 @@ pub record ClosesBuffer (old new : Sheet) : Type 0 where
 abbrev pub IsAsLong : Sheet → Sheet → Type 0
 IsAsLong old new = length new.bytes.items ≡ length old.bytes.items
 
--- nothing stands on it
+-- nothing is on it
 abbrev pub IsBlank : Sheet → Type 0
 IsBlank s = (s.used ≡ 0) × (s.marks.items ≡ [])
 

@@ -118,7 +118,7 @@ impl<'m> Actor<'m> {
         Ok(())
     }
 
-    /// The node where it stands.
+    /// The node where it is.
     pub fn node(&self) -> u32
         ensures at { result ≡ self.now.at }
         ensures within { IsTrue self.now.usable → result < length self.now.machine.nodes }
@@ -127,7 +127,7 @@ impl<'m> Actor<'m> {
     }
 
     /// Goes to a node, and does what the actions say, where this byte is read. Every code whose
-    /// steps do just that from where it stands is performed then.
+    /// steps do just that, from where it is, is performed then.
     pub fn act(
         &mut self,
         node: u32,
@@ -180,7 +180,7 @@ impl<'m> Actor<'m> {
         Ok(count)
     }
 
-    /// Goes to a node, and hands on what stands on a sheet.
+    /// Goes to a node, and hands on what is on a sheet.
     pub fn hand_on(&mut self, node: u32, sheet: &mut Sheet, out: &mut Vec<u8>) -> Result<(), Memory>
         requires usable { IsTrue self.old.usable }
         requires sheet { IsSheet sheet.old }
@@ -202,7 +202,7 @@ impl<'m> Actor<'m> {
         Ok(())
     }
 
-    /// Stands where another actor of its machine stands, and holds what that one holds.
+    /// Goes to where another actor of its machine is, and holds what that one holds.
     pub fn stand_like(&mut self, other: &Actor) -> Result<(), Memory>
         requires machine { other.now.machine ≡ self.old.machine }
         requires usable { IsTrue other.now.usable }
@@ -218,15 +218,15 @@ impl<'m> Actor<'m> {
         Ok(())
     }
 
-    /// Whether no open buffer and no register holds more than so many bytes, so that it is cheap to
-    /// stand like it.
+    /// Whether no open buffer and no register holds more than `most` bytes, so that it is cheap to
+    /// copy.
     pub fn is_light(&self, most: usize) -> bool
         ensures { IsTrue result → All (λ b. length b ≤ most) self.now.holding.registers }
     {
         self.store.is_light(most)
     }
 
-    /// Whether another actor of its machine stands where it stands, and holds the same. One that
+    /// Whether another actor of its machine is where it is, and holds the same. One that
     /// isn't usable is like none.
     pub fn is_same(&self, other: &Actor) -> bool
         requires { other.now.machine ≡ self.now.machine }

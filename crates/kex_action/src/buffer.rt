@@ -8,7 +8,7 @@ use kex_code::memory::Memory;
 use std::alloc::Global;
 use std::marker::Model;
 
-// Bytes of an open buffer or of a register: the first `used`. What stands behind them doesn't
+// Bytes of an open buffer or of a register: the first `used`. What comes after them doesn't
 // count.
 #[derive(Drop)]
 pub struct Buffer {
@@ -26,7 +26,7 @@ impl Model for Buffer {
     ghost invariant = { λ b. b.used ≤ length b.bytes.items };
 }
 
-// So many bytes, or more.
+// Makes them `room` bytes, or more.
 fn make_room(bytes: &mut Vec<u8>, room: usize) -> Result<(), Memory>
     ensures room { OnOk result (room ≤ length bytes.new.items) }
     ensures err { OnErr result (bytes.new.items ≡ bytes.old.items) }
@@ -97,7 +97,7 @@ impl Buffer {
         self.used
     }
 
-    // Its bytes, and what stands behind them.
+    // Its bytes, and what comes after them.
     #[inline(always)]
     pub fn room(&self) -> &[u8]
         ensures front { take (length self.now) result.now ≡ self.now }

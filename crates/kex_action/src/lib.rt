@@ -1,6 +1,6 @@
 //! The action machine of a stage: it performs the symbols of a code, and writes what they say.
 //!
-//! Stands on codes and machines. An `Actor` stores no history: `HasPerformed` relates it to all
+//! Uses codes and machines. An `Actor` stores no history: `HasPerformed` relates it to all
 //! symbols that it was given, those that it performed, and all bytes written; the clauses of
 //! `Actor::take` carry this on.
 #![tactic(auto)]

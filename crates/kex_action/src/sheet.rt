@@ -9,8 +9,8 @@ use crate::piece::{PIECE, copy_piece};
 use kex_code::memory::Memory;
 use std::alloc::Global;
 
-/// Bytes that are written and not handed on yet. From each mark on they stand in a buffer that was
-/// opened there, up to the next mark. What stands from `used` on doesn't count.
+/// Bytes that are written and not handed on yet. From each mark on they are in a buffer that was
+/// opened there, up to the next mark. What comes from `used` on doesn't count.
 #[derive(Drop)]
 pub struct Sheet {
     pub bytes: Vec<u8>,
@@ -18,7 +18,7 @@ pub struct Sheet {
     pub marks: Vec<usize>,
 }
 
-// A mark is put behind others. There is room mostly: what makes room is apart.
+// A mark is put after others. There is room mostly: what makes room is apart.
 #[inline(always)]
 fn push(marks: &mut Vec<usize>, mark: usize) -> Result<(), Memory>
     ensures ok { OnOk result (marks.new.items ≡ marks.old.items ++ mark ∷ []) }
@@ -31,7 +31,7 @@ fn push(marks: &mut Vec<usize>, mark: usize) -> Result<(), Memory>
 }
 
 impl Sheet {
-    /// Nothing stands on it, and there is room for so many bytes.
+    /// Nothing is on it, and there is room for `room` bytes.
     pub fn new(alloc: Global, room: usize) -> Result<Sheet, Memory>
         ensures room { IfOk result (λ s. length s.bytes.items ≡ room) }
         ensures none { IfOk result (λ s. IsBlank s) }
@@ -146,7 +146,7 @@ impl Sheet {
         Some(end)
     }
 
-    // Nothing stands on it any more.
+    // Nothing is on it any more.
     pub(crate) fn clear(&mut self)
         ensures none { IsBlank self.new }
         ensures same { self.new.bytes.items ≡ self.old.bytes.items }

@@ -123,7 +123,7 @@ fn are_same(left: &[Buffer], right: &[Buffer]) -> bool
     true
 }
 
-// Whether none of the buffers has more than so many bytes.
+// Whether none of the buffers has more than `most` bytes.
 fn are_short(all: &[Buffer], most: usize) -> bool
     ensures { IsTrue result ↔ All (λ b. length b ≤ most) all.now }
 {
@@ -167,7 +167,7 @@ impl Store {
         Ok(())
     }
 
-    // Whether no buffer and no register has more than so many bytes.
+    // Whether no buffer and no register has more than `most` bytes.
     pub fn is_light(&self, most: usize) -> bool
         ensures { IsTrue result → All (λ b. length b ≤ most) self.now.registers }
     {
@@ -246,7 +246,7 @@ impl Store {
         }
     }
 
-    // The register gets the pieces behind what it has.
+    // The register gets the pieces after what it has.
     fn add(&mut self, r: u32, pieces: &[Piece]) -> Result<(), Memory>
         requires in_range { r < length self.old.registers }
         requires pieces_in { HasPieces (length self.old.registers) pieces.now }
@@ -264,7 +264,7 @@ impl Store {
         Ok(())
     }
 
-    // The register gets the pieces. Where it is the first of them itself, the others are put behind
+    // The register gets the pieces. Where it is the first of them itself, the others are put after
     // it.
     fn set(&mut self, r: u32, pieces: &[Piece]) -> Result<(), Memory>
         requires in_range { r < length self.old.registers }
@@ -360,7 +360,7 @@ impl Store {
         }
     }
 
-    // Hands on what stands on a sheet: its bytes are written, and what was opened there is opened.
+    // Hands on what is on a sheet: its bytes are written, and what was opened there is opened.
     pub fn hand_on(&mut self, sheet: &Sheet, out: &mut Vec<u8>) -> Result<(), Memory>
         requires { IsSheet sheet.now }
         ensures { OnOk result (state_of out.new.items self.new

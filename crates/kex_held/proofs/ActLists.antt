@@ -1,4 +1,4 @@
--- What codes do between nodes, one behind the other.
+-- What codes do between nodes, one after the other.
 use Rattle.std.proofs.Common.{◌≡◌, ℕ, zero, suc, List, [], ◌∷◌, ◌++◌, Some, None, get_or, refl, sym, subst, append_assoc}
 use Rattle.std.specs.Prelude.{slice_get}
 use Rattle.kex_code.specs.declared.symbol.Symbol.{Symbol}
@@ -33,7 +33,7 @@ does_more nodes n m t c d xs ys p q = record {
   takes = λ x takes. q.takes x (p.takes (d ++ x) (subst (λ l. TakesCode nodes n l) (append_assoc c d x) takes));
 }
 
--- what makes the same of every state may stand for it
+-- what makes the same of every state may take its place
 pub does_same : (nodes : List MNode) (n t : ℕ) (c : List Symbol) (xs ys : List Act) → DoesActs nodes n c t xs → MakeSame nodes xs ys → DoesActs nodes n c t ys
 does_same nodes n t c xs ys p same = record { does = λ x takes s. subst (λ z. LeadsByCode nodes n s c t z) (same s) (p.does x takes s); takes = p.takes }
 

@@ -19,7 +19,7 @@ use Rattle.kex_held.specs.HeldRows.{HeldRow, RowEdge, AreListsWithin, items_if, 
 use Rattle.kex_held.specs.LearntEdges.{AreTrackedAny, ComesToLinks, AreComing, IsLearnt, IsRowWithin, AreListsOf, AreRenumbered, IsEdgeWith}
 use Rattle.kex_held.proofs.ListJoins.{within_append}
 
--- links one behind the other
+-- links one after the other
 pub links-append : (xs : List HeldList) (m : ℕ) (us vs : List Link) → items_by_links xs m (us ++ vs) ≡ items_by_links xs m us ++ items_by_links xs m vs
 links-append xs m [] vs = refl
 links-append xs m (Whole r ∷ us) vs = ap (λ l. items_if (slice_get xs r) ++ l) (links-append xs m us vs) ∙ sym (append_assoc (items_if (slice_get xs r)) (items_by_links xs m us) (items_by_links xs m vs))
@@ -114,7 +114,7 @@ renumbered_push last keep [] (y ∷ ys) x items p q w = absurd p
 renumbered_push last keep (z ∷ xs) [] x items p q w = absurd p
 renumbered_push last keep (z ∷ xs) (y ∷ ys) x items p q w = (p.0, p.1, p.2, p.3, renumbered_push last keep xs ys x items p.4 q w)
 
--- a point more is kept, behind all others
+-- a point more is kept, after all others
 pub kept_push : (p : ℕ) (keep : List ℕ) → AreKept p keep → AreKept (p + 1) (keep ++ p ∷ [])
 kept_push p keep k = record { rise = rise; within = at }
   where

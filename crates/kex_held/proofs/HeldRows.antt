@@ -21,7 +21,7 @@ use Rattle.kex_held.proofs.ActLists.{does_same}
 use Rattle.kex_held.proofs.HeldRuns.{OneOn, one_on}
 use Rattle.kex_held.proofs.WindowSlices.{between_last, points_rise, edge_points_rise, count_points, count_edge_points, rising_kept, rising_carried, acts_longer, acts_by_number, acts_carried, points_carried}
 
--- the points of an edge that are numbers m and m + 1: where the window ends before the byte, and behind it
+-- the points of an edge that are numbers m and m + 1: where the window ends before the byte, and after it
 pub point_before : (w marks : List ℕ) → get_or (edge_points w marks) (length marks) 0 ≡ length w
 point_before w marks = get_or_append_left (points_of w marks) ((length w + 1) ∷ []) 0 (length marks) (omega (arith, count_points w marks)) ∙ get_or_push marks (length w) 0 (length marks) refl
 

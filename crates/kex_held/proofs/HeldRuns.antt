@@ -62,7 +62,7 @@ passes_more t (Some p) (u ∷ us) vs = passes_more t (next_pass (next_of t p.sta
 pub goes_none : (t : Transducer) (a : Position) (h : HeldState) (regs : List (List Symbol)) (xs : List ℕ) → AreHeld a.machine.nodes h.edges regs → GoesHeld t a a h h regs [] xs xs
 goes_none t a h regs xs held = record { said = []; registers = regs; passed = λ c. ap (λ l. Some (pass_with h l regs)) (sym (append-nil c)); held = held; went = λ x takes. went_none a xs; takes = λ x takes. takes }
 
--- the actor that stands where the edge begins, and has done what the edge says of what is passed on
+-- the actor that is where the edge begins, and has done what the edge says of what is passed on
 pub goes_one : (t : Transducer) (old new : Position) (h : HeldState) (class : ℕ) (e : HeldStep) (b : ℕ) (regs : List (List Symbol)) (xs ys : List ℕ) → slice_get t.classes b ≡ Some class → IsRightStep t old.machine.nodes h class e → AreHeld old.machine.nodes h.edges regs → old.at ≡ h.node → new.at ≡ e.out.to → new.machine ≡ old.machine → ((d : List Symbol) → Does old.machine.nodes old.at d new.at (after_acts old.machine.nodes (acts_by_links h.edges b e.out.links)) → WentOn old new d d xs ys) → GoesHeld t old new h (state_behind h b e) regs (b ∷ []) xs ys
 goes_one t old new h class e b regs xs ys is r held from to machine did =
     let one = one_on t old.machine.nodes h class e b regs is r held in

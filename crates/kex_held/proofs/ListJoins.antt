@@ -19,7 +19,7 @@ adds_twice : (xs ys out : List ℕ) (bs : List (List ℕ)) (regs : Registers) �
 adds_twice xs ys out [] regs = ap (λ (l : List ℕ). record { out = l; buffers = []; registers = regs }) (sym (append_assoc out xs ys))
 adds_twice xs ys out (b ∷ bs) regs = ap (λ (l : List ℕ). record { out = out; buffers = l ∷ bs; registers = regs }) (sym (append_assoc b xs ys))
 
--- the same behind and before others
+-- the same after and before others
 pub same_within : (nodes : List MNode) (us xs ys vs : List Act) → MakeSame nodes xs ys → MakeSame nodes (us ++ (xs ++ vs)) (us ++ (ys ++ vs))
 same_within nodes us xs ys vs p s =
     acted-append nodes us (xs ++ vs) s ∙ acted-append nodes xs vs (after_acts nodes us s)
@@ -127,6 +127,6 @@ list_dropped nodes items at d z o drops = record {
       ∙ left_out nodes w points x z ys o.opens o.writes drops (after_acts nodes (over (take at items)) s);
 }
 
--- one item more that writes, before those behind it
+-- one item more that writes, before those after it
 pub writing_more : (nodes : List MNode) (items : List HeldItem) (at : ℕ) (d : HeldItem) → at < length items → DoesTurn nodes (get_or items at d) Writes → AreWriting nodes (drop (at + 1) items) → AreWriting nodes (drop at items)
 writing_more nodes items at d lt one rest = subst (AreWriting nodes) (sym (drop_more items at d lt)) (one, rest)

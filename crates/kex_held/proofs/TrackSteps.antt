@@ -54,7 +54,7 @@ steps_own nodes lists from to (Put s) before after not g = record { more = own_a
 steps_own nodes lists from to (Old r) before after not g = absurd (not r refl)
 steps_own nodes lists from to Input before after not g = record { more = own_all g.actions; noted = g.noted; tracks = any_learnt nodes lists from to (Input ∷ []) before after refl g }
 
--- an old register, behind what needs no symbol
+-- an old register, after what needs no symbol
 pub steps_old : (nodes : List MNode) (lists : List HeldList) (from at r : ℕ) (e : HeldList) (before middle after : List Link) → GoesBy nodes from [] at before middle → slice_get lists r ≡ Some e → e.from ≡ at → after ≡ middle ++ Whole r ∷ [] → StepsBy nodes lists (Old r) from e.to before after
 steps_old nodes lists from at r e before middle after g is here noted = record {
   more = own_all g.actions ++ Whole r ∷ [];

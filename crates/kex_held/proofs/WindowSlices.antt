@@ -1,4 +1,4 @@
--- Slices of a window: behind a byte more, joined, by other points, and of a window that leaves its front behind.
+-- Slices of a window: after a byte more, joined, by other points, and of a window that leaves its front behind.
 use Rattle.std.proofs.Common.{◌≡◌, ℕ, ◌≤◌, ◌<◌, ◌+◌, ◌-◌, List, [], ◌∷◌, ◌++◌, length, take, drop, get_or, refl, sym, ap, ap₂, ◌∙◌, arith, ⊎_elim, length-append, length-drop}
 use Rattle.std.proofs.lemmas.List.{take-append-le, drop-append-le, drop-drop, get_or_append_left, get_or_push, get_or-map, get_or_past, get_or_default, length-map, map-append}
 use Rattle.std.proofs.lemmas.Bool.{cases_lt}
@@ -12,7 +12,7 @@ use Rattle.kex_held.specs.Slices.{slice_between, acts_over, AreRising, points_of
 pub between_longer : (w x : List ℕ) (a b : ℕ) → a ≤ b → b ≤ length w → slice_between (w ++ x) a b ≡ slice_between w a b
 between_longer w x a b le within = ap (take (b - a)) (drop-append-le a w x (omega arith)) ∙ take-append-le (b - a) (drop a w) x (omega (arith, length-drop a w))
 
--- the byte behind a window
+-- the byte after a window
 pub between_last : (w : List ℕ) (b : ℕ) → slice_between (w ++ b ∷ []) (length w) (length w + 1) ≡ b ∷ []
 between_last w b =
     let one : (length w + 1) - length w ≡ 1 = omega arith in
@@ -83,7 +83,7 @@ count_points w marks = length-append marks (length w ∷ [])
 pub count_edge_points : (w marks : List ℕ) → length (edge_points w marks) ≡ length marks + 2
 count_edge_points w marks = omega (arith, length-append (points_of w marks) ((length w + 1) ∷ []), count_points w marks)
 
--- one byte more, and one point more behind the others
+-- one byte more, and one point more after the others
 pub acts_longer : (w x points : List ℕ) (p : ℕ) (items : List HeldItem) → AreRising (length w) points → AreItemsWithin (length points) items → acts_over (w ++ x) (points ++ p ∷ []) items ≡ acts_over w points items
 acts_longer w x points p [] r h = refl
 acts_longer w x points p (Slice i j ∷ items) r h =
@@ -94,7 +94,7 @@ acts_longer w x points p (Slice i j ∷ items) r h =
     ap₂ (λ a l. bytes a ∷ l) same (acts_longer w x points p items r h.1)
 acts_longer w x points p (Effect n ∷ items) r h = ap (λ l. effect n ∷ l) (acts_longer w x points p items r h.1)
 
--- a point behind an edge is the one that its number names among the edge's points
+-- a point after an edge is the one that its number names among the edge's points
 pub point_by : (points keep : List ℕ) (last end i : ℕ) → i < length keep + 1 → get_or points last 0 ≡ end → get_or points (number_by last keep i) 0 ≡ get_or (marks_by points keep ++ end ∷ []) i 0
 point_by points keep last end i lt e = ⊎_elim old_at last_at (cases_lt i (length keep))
   where

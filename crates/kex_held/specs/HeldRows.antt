@@ -47,7 +47,7 @@ pub record RowEdge : Type 0 where
   pub outs : List HeldItem
   pub keep : List ℕ
 
--- the lists behind the edge, by the edge's points, do what the links make of the old lists
+-- the lists after the edge, by the edge's points, do what the links make of the old lists
 abbrev pub AreMadeBy : List MNode → List TreeEdge → ℕ → List ℕ → List ℕ → ℕ → List ℕ
     → List HeldList → List Passage → Type 0
 AreMadeBy nodes olds b w points last keep [] [] = Unit {0}

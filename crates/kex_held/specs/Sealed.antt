@@ -25,7 +25,7 @@ abbrev pub AreWriting : List MNode → List HeldItem → Type 0
 AreWriting nodes [] = Unit {0}
 AreWriting nodes (i ∷ items) = DoesTurn nodes i Writes × AreWriting nodes items
 
--- at this number a buffer is opened, into which all items behind it write
+-- at this number a buffer is opened, into which all items after it write
 pub record OpensAt (nodes : List MNode) (items : List HeldItem) (at : ℕ)
     (d : HeldItem) : Type 0 where
   pub within : at < length items

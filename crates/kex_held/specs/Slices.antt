@@ -25,15 +25,15 @@ pub record AreRising (high : ℕ) (points : List ℕ) : Type 0 where
   pub rise : (i j : ℕ) → i ≤ j → j < length points → get_or points i 0 ≤ get_or points j 0
   pub within : (i : ℕ) → i < length points → get_or points i 0 ≤ high
 
--- the points where a window has these marks: behind them its end
+-- the points where a window has these marks: after them its end
 abbrev pub points_of : List ℕ → List ℕ → List ℕ
 points_of w marks = marks ++ length w ∷ []
 
--- those of an edge: the points before the byte, and the end behind it
+-- those of an edge: the points before the byte, and the end after it
 abbrev pub edge_points : List ℕ → List ℕ → List ℕ
 edge_points w marks = points_of w marks ++ (length w + 1) ∷ []
 
--- a slice is between two of so many points, the first not behind the second
+-- a slice is between two of that many points, the first not after the second
 abbrev pub IsItemWithin : ℕ → HeldItem → Type 0
 IsItemWithin count (Slice i j) = (i ≤ j) × (j < count)
 IsItemWithin count (Effect n) = Unit {0}
@@ -42,28 +42,28 @@ abbrev pub AreItemsWithin : ℕ → List HeldItem → Type 0
 AreItemsWithin count [] = Unit {0}
 AreItemsWithin count (i ∷ items) = IsItemWithin count i × AreItemsWithin count items
 
--- over any window with so many points the lists make the same of every state
+-- over any window with that many points the lists make the same of every state
 abbrev pub MakeSameOver : List MNode → ℕ → List HeldItem → List HeldItem → Type 0
 MakeSameOver nodes count xs ys = (w points : List ℕ) → AreRising (length w) points
     → length points ≡ count → MakeSame nodes (acts_over w points xs) (acts_over w points ys)
 
--- a list behind which more was put: it makes the same as that does, and has slices between the same
+-- a list after which more was put: it makes the same as that does, and has slices between the same
 -- points
 pub record ListGoesOn (nodes : List MNode) (old more new : List HeldItem) : Type 0 where
   pub within : (count : ℕ) → AreItemsWithin count (old ++ more) → AreItemsWithin count new
   pub same : (count : ℕ) → AreItemsWithin count (old ++ more)
       → MakeSameOver nodes count (old ++ more) new
 
--- numbers of so many points, that rise: those that stay marks
+-- numbers of points, of which there are `count`, that rise: those that stay marks
 pub record AreKept (count : ℕ) (keep : List ℕ) : Type 0 where
   pub rise : (i j : ℕ) → i ≤ j → j < length keep → get_or keep i 0 ≤ get_or keep j 0
   pub within : (i : ℕ) → i < length keep → get_or keep i 0 < count
 
--- the marks behind an edge
+-- the marks after an edge
 abbrev pub marks_by : List ℕ → List ℕ → List ℕ
 marks_by points keep = map (λ i. get_or points i 0) keep
 
--- the number among an edge's points of a point behind it: of a mark that was kept, or (`last`) of
+-- the number among an edge's points of a point after it: of a mark that was kept, or (`last`) of
 -- the end
 abbrev pub number_by : ℕ → List ℕ → ℕ → ℕ
 number_by last keep i = get_or keep i last
@@ -72,7 +72,7 @@ abbrev pub item_by_number : ℕ → List ℕ → HeldItem → HeldItem
 item_by_number last keep (Slice i j) = Slice (number_by last keep i) (number_by last keep j)
 item_by_number last keep (Effect n) = Effect n
 
--- a list behind an edge, by the edge's points
+-- a list after an edge, by the edge's points
 abbrev pub items_by_number : ℕ → List ℕ → List HeldItem → List HeldItem
 items_by_number last keep items = map (λ i. item_by_number last keep i) items
 
@@ -80,7 +80,7 @@ items_by_number last keep items = map (λ i. item_by_number last keep i) items
 abbrev pub shifted_marks : ℕ → List ℕ → List ℕ
 shifted_marks k marks = map (λ p. p - k) marks
 
--- an action, where the byte is what stands between points number m and m + 1
+-- an action, where the byte is what is between points number m and m + 1
 abbrev pub item_of : ℕ → Action → HeldItem
 item_of m Byte = Slice m (m + 1)
 item_of m (Node n) = Effect n

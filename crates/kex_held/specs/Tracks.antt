@@ -1,4 +1,4 @@
--- How what is held behind a byte is made of what was held before it, and when that is right.
+-- How what is held after a byte is made of what was held before it, and when that is right.
 use Rattle.std.specs.Prelude.{◌≡◌, ℕ, List, [], ◌∷◌, ◌++◌, map, Some}
 use Rattle.kex_code.specs.declared.symbol.Symbol.{Symbol}
 use Rattle.kex_machine.specs.declared.MNode.{MNode}
@@ -52,7 +52,7 @@ AreTracked nodes edges [] (p ∷ ps) = ⊥
 AreTracked nodes edges (xs ∷ xss) [] = ⊥
 AreTracked nodes edges (xs ∷ xss) (p ∷ ps) = Tracks nodes edges xs p × AreTracked nodes edges xss ps
 
--- where a table and an actor stand: a state, a node, and what the registers hold
+-- where a table and an actor are: a state, a node, and what the registers hold
 pub record HeldState : Type 0 where
   pub state : ℕ
   pub node : ℕ

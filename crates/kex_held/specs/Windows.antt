@@ -3,7 +3,7 @@ use Rattle.std.specs.Prelude.{◌≡◌, ◌≤◌, ◌<◌, ◌+◌, ◌-◌, �
 use Rattle.std.specs.Prelude.{length, get_or}
 use Rattle.kex_held.specs.Slices.{AreRising, shifted_marks}
 
--- bytes, of which so many were read, and marks among those
+-- bytes, how many of them were read, and marks among those
 pub record MarkedText : Type 0 where
   pub bytes : List ℕ
   pub at : ℕ

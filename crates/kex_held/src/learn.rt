@@ -32,7 +32,7 @@ fn has_long(texts: &[RegisterText]) -> bool {
 }
 
 // The edge to a state and a node with these items for the output, where the new registers have
-// these texts by the edge's points, of which `last` is the end behind the byte.
+// these texts by the edge's points, of which `last` is the end after the byte.
 fn settle(
     alloc: Global,
     state: u32,

@@ -1,4 +1,4 @@
-// How a list of items is made, one item behind another.
+// How a list of items is made, one item after another.
 
 ghost use Rattle.std.specs.Prelude.{◌≡◌, ◌+◌, ◌<◌, ◌^◌, ◌∷◌, [], List, OnOk, IfOk, IfSome};
 ghost use Rattle.std.specs.Prelude.{slice_get};
@@ -56,7 +56,7 @@ fn turn_of(machine: &Trimmed, item: HeldItem) -> ItemTurn
     }
 }
 
-// The number of the last item that opens a buffer, if all behind it only write.
+// The number of the last item that opens a buffer, if all after it only write.
 fn opened_at(machine: &Trimmed, items: &[HeldItem]) -> Option<usize>
     ensures { IfSome result (λ at. OpensAt machine.now.nodes items.now at (Slice 0 0)) }
 {
@@ -72,7 +72,7 @@ fn opened_at(machine: &Trimmed, items: &[HeldItem]) -> Option<usize>
     None
 }
 
-// Puts a slice behind items. One that begins where the last ends is joined to it.
+// Puts a slice after items. One that begins where the last ends is joined to it.
 fn push_slice(items: &mut Vec<HeldItem>, from: u8, to: u8) -> Result<(), Memory>
     ensures { OnOk result ((nodes : List MNode)
         → ListGoesOn nodes items.old.items (Slice from to ∷ []) items.new.items) }
@@ -95,7 +95,7 @@ fn push_slice(items: &mut Vec<HeldItem>, from: u8, to: u8) -> Result<(), Memory>
     }
 }
 
-// Puts what a node does behind items. Where it drops a buffer into which bytes alone were written,
+// Puts what a node does after items. Where it drops a buffer into which bytes alone were written,
 // the buffer is left out.
 fn push_effect(machine: &Trimmed, items: &mut Vec<HeldItem>, node: u32) -> Result<(), Memory>
     ensures { OnOk result
@@ -111,7 +111,7 @@ fn push_effect(machine: &Trimmed, items: &mut Vec<HeldItem>, node: u32) -> Resul
     Ok(())
 }
 
-/// Puts an item behind others: slices that touch are joined, and a buffer into which bytes alone
+/// Puts an item after others: slices that touch are joined, and a buffer into which bytes alone
 /// were written is left out once it is dropped.
 pub fn push(machine: &Trimmed, items: &mut Vec<HeldItem>, item: HeldItem) -> Result<(), Memory>
     ensures { OnOk result
@@ -123,7 +123,7 @@ pub fn push(machine: &Trimmed, items: &mut Vec<HeldItem>, item: HeldItem) -> Res
     }
 }
 
-// Puts a list behind another.
+// Puts a list after another.
 fn push_all(machine: &Trimmed, items: &mut Vec<HeldItem>, more: &[HeldItem]) -> Result<(), Memory>
     ensures { OnOk result
         (ListGoesOn machine.now.nodes items.old.items more.now items.new.items) }
@@ -134,7 +134,7 @@ fn push_all(machine: &Trimmed, items: &mut Vec<HeldItem>, more: &[HeldItem]) -> 
     Ok(())
 }
 
-// Puts the text of a register behind a list, if there is the register.
+// Puts the text of a register after a list, if there is the register.
 fn push_text(
     machine: &Trimmed,
     texts: &[RegisterText],
@@ -152,7 +152,7 @@ fn push_text(
     Ok(())
 }
 
-// What an action is, where the byte stands behind so many marks.
+// What an action is, where there are `marks` marks before the byte.
 fn own_item(marks: u8, action: Action) -> HeldItem
     requires { marks + 1 < 2 ^ 8 }
     ensures { result ≡ item_of marks action }
@@ -163,7 +163,7 @@ fn own_item(marks: u8, action: Action) -> HeldItem
     }
 }
 
-// Puts behind a list what a link names.
+// Puts after a list what a link names.
 fn push_link(
     machine: &Trimmed,
     texts: &[RegisterText],

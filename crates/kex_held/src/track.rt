@@ -148,7 +148,7 @@ pub fn track(
     Ok(Some(Tracked { from, to, links }))
 }
 
-// How many nodes are looked at behind a node for those at which the path tree may fork.
+// How many nodes are looked at after a node for those at which the path tree may fork.
 const MOST_LOOKS: usize = 256;
 
 // Puts before nodes at which the path tree may fork those to which a node leads without a byte, in
@@ -183,7 +183,7 @@ fn put_forks(
     Ok(())
 }
 
-// How the list of the parts is made, from the first of some nodes that it can be told of.
+// How the list of the parts is made, from the first of some nodes from which it can be tracked.
 fn track_from_any(
     alloc: Global,
     machine: &Trimmed,
@@ -205,7 +205,7 @@ fn track_from_any(
     Ok(None)
 }
 
-// The nodes from which the list of parts of a register may be told, the likeliest first.
+// The nodes from which the list of parts of a register may be tracked, the likeliest first.
 fn starts_of(
     alloc: Global,
     table: &Table,
@@ -234,7 +234,7 @@ fn starts_of(
 ///
 /// A list that goes on with an old register begins where that begins. Another upper end is a node
 /// with a choice, to which the root or a lower end leads without a byte, and from which the list
-/// can be taken where the byte is read. Where there are several it is told by what comes later.
+/// can be taken where the byte is read. Where there are several, what comes later says which it is.
 /// Nothing rests on that: what is tracked is right from whichever node.
 pub fn track_edges(
     alloc: Global,

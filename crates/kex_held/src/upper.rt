@@ -1,7 +1,7 @@
 // Where a register of a state begins: the node at the upper end of its edge of the path tree.
 //
 // A table doesn't say it, and where constants were taken out not even the preorder of its registers
-// does. But what is passed on later says it, where it takes the register behind what is known.
+// does. But what is passed on later says it, where it takes the register after what is known.
 // Nothing rests on the answer.
 
 use crate::item::RegisterText;
@@ -29,7 +29,7 @@ pub struct Place {
 }
 
 /// Where a walk along parts has come: to the register that is looked for, to the end, or to a part
-/// that can't be told.
+/// past which nothing is known.
 #[derive(Clone, Copy, Debug, PartialEq, Eq)]
 pub enum Came {
     ToRegister(u32),
@@ -148,7 +148,7 @@ fn walk(machine: &Trimmed, from: u32, parts: &[Part], register: u32) -> Came {
     Came::ToEnd(at)
 }
 
-// The node at which a register begins in a list, behind one whose lower end is known.
+// The node at which a register begins in a list, after one whose lower end is known.
 fn behind(machine: &Trimmed, known: &[Tracked], parts: &[Part], register: u32) -> Option<u32> {
     let mut at = Came::Nowhere;
     for part in parts {
@@ -182,7 +182,7 @@ fn behind_any(machine: &Trimmed, known: &[Tracked], update: &Update, register: u
     None
 }
 
-// Notes the registers behind an update that begin with what a register held.
+// Notes the registers after an update that begin with what a register held.
 fn follow(
     places: &mut Vec<Place>,
     target: u32,

@@ -103,7 +103,7 @@ const NO_NODE: u32 = 4_294_967_295;
 // How many buffers are counted.
 const MOST: u32 = 16;
 
-// What is open behind an effect.
+// What is open after an effect.
 fn behind(opened: Opened, effect: &Effect, node: u32) -> Opened {
     match effect {
         Effect::Open if opened.count == 0 => Opened { by: node, count: 1 },
@@ -189,7 +189,7 @@ fn follow(
     Ok(Some(Learnt { to, actions }))
 }
 
-// How many buffers are open behind an action, if it only writes, opens one, or drops one that was
+// How many buffers are open after an action, if it only writes, opens one, or drops one that was
 // opened before.
 fn depth_behind(machine: &Trimmed, action: Action, depth: u32) -> Option<u32> {
     let Action::Node(n) = action else {

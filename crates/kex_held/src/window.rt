@@ -32,7 +32,7 @@ impl Model for Window {
         IsMarkedText (record { bytes = w.bytes.items; at = w.at; marks = w.marks.items }) };
 }
 
-// Leaves so many bytes behind, and shifts the marks.
+// Leaves `count` bytes behind, and shifts the marks.
 fn shift(marks: &mut Vec<usize>, count: usize)
     requires { (i : ℕ) → i < length marks.old.items → count ≤ get_or marks.old.items i 0 }
     ensures { marks.new.items ≡ shifted_marks count marks.old.items }
@@ -42,7 +42,7 @@ fn shift(marks: &mut Vec<usize>, count: usize)
     }
 }
 
-// The first mark, or where there is none, the place behind all that was read.
+// The first mark, or where there is none, the place after all that was read.
 fn lowest(marks: &[usize], at: usize) -> usize
     requires { AreRising at marks.now }
     ensures { HasNoMarkBelow at marks.now result }
@@ -66,7 +66,7 @@ fn left_front(marks: &[usize], at: usize, length: usize) -> usize
     count
 }
 
-// Leaves so many bytes behind.
+// Leaves `count` bytes behind.
 fn leave(bytes: &mut Vec<u8>, count: usize)
     requires { count ≤ length bytes.old.items }
     ensures { bytes.new.items ≡ drop count bytes.old.items }
@@ -74,7 +74,7 @@ fn leave(bytes: &mut Vec<u8>, count: usize)
     bytes.drain(..count);
 }
 
-// Where a point of an edge lies at the byte behind so many.
+// Where a point of an edge lies at the byte after the first `at`.
 #[inline(always)]
 fn point_of(marks: &[usize], at: usize, number: u8) -> usize
     requires fits { at + 1 < 2 ^ 64 }
@@ -89,7 +89,7 @@ fn point_of(marks: &[usize], at: usize, number: u8) -> usize
     at + (number - count)
 }
 
-// Puts points of an edge behind one another.
+// Puts points of an edge one after another.
 fn put_points(marks: &[usize], at: usize, keep: &[u8], out: &mut Vec<usize>) -> Result<(), Memory>
     requires fits { at + 1 < 2 ^ 64 }
     requires kept { AreKept (length marks.now + 2) keep.now }
@@ -116,7 +116,7 @@ impl Window {
         }
     }
 
-    /// Puts a piece behind the bytes.
+    /// Puts a piece after the bytes.
     pub fn give(&mut self, piece: &[u8]) -> Result<(), Memory>
         ensures { OnOk result (self.new ≡ record self.old { bytes = self.old.bytes ++ piece.now }) }
     {
@@ -162,7 +162,7 @@ impl Window {
         Ok(())
     }
 
-    /// Leaves behind what stands before the first mark, or all that was read where there is none;
+    /// Leaves behind what comes before the first mark, or all that was read where there is none;
     /// or nothing, where more would have to be moved.
     pub fn carry(&mut self)
         ensures { LeavesBehind self.old self.new }

@@ -18,7 +18,7 @@ use Rattle.kex_held_rows.specs.declared.note.RowNote.{RowNote}
 use Rattle.kex_held_rows.specs.declared.note.RowNote.TheVariants.{Unknown, Plain, Stays, Goes}
 use Rattle.kex_held_rows.specs.Books.{RowNotes, RowBook, rows_in, IsNoteRight, IsEntryRight, IsBook, KeepsRows}
 
--- what is there stays where more comes behind it
+-- what is there stays where more comes after it
 some_front : {A : Type 0} (xs ys : List A) (i : ℕ) (x : A) → slice_get xs i ≡ Some x → slice_get (xs ++ ys) i ≡ Some x
 some_front [] ys i x e = let f : None ≡ Some x = e in cc
 some_front (y ∷ xs) ys zero x e = e

@@ -58,7 +58,7 @@ pub record IsEntryRight (t : Transducer) (g : Graph) (rows : List HeldRow)
 abbrev pub IsBook : RowBook → Type 0
 IsBook b = All (IsEntryRight b.table b.machine (rows_in b.rows)) b.rows
 
--- rows stay by their numbers, and others may come behind them
+-- rows stay by their numbers, and others may come after them
 pub record KeepsRows (old new : RowBook) : Type 0 where
   pub table : new.table ≡ old.table
   pub machine : new.machine ≡ old.machine

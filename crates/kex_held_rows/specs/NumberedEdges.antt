@@ -10,6 +10,6 @@ pub record NumberedEdge : Type 0 where
   pub outs : List HeldItem
   pub keep : List ℕ
 
--- so many points in front are the first ones, in their order
+-- that many points in front are the first ones, in their order
 abbrev pub HasFirsts : ℕ → List ℕ → Type 0
 HasFirsts n keep = (n ≤ length keep) × ((i : ℕ) → i < n → get_or keep i 0 ≡ i)

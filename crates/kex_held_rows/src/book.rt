@@ -112,7 +112,7 @@ fn is_crowded(rows: &[KnownRow], heads: &[u32], state: u32) -> bool {
     true
 }
 
-// The number of the row behind so many, if it is one.
+// The number of the row after the first `count`, if it is one.
 fn number_of(count: usize) -> Option<u32>
     ensures { IfSome result (λ number. number ≡ count) }
 {
@@ -127,7 +127,7 @@ fn head_of(heads: &mut [u32], state: u32, number: u32) -> u32 {
     }
 }
 
-// Puts a row of which nothing is learnt behind others.
+// Puts a row of which nothing is learnt after others.
 fn push_row(
     alloc: Global,
     rows: &mut Vec<KnownRow>,

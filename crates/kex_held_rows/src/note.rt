@@ -132,7 +132,7 @@ impl Model for KnownRow {
     ghost view = { λ x. record { row = x.row; notes = x.notes.items } };
 }
 
-// So many notes that nothing is learnt.
+// A note for each class that nothing is learnt.
 fn unknown(alloc: Global, classes: usize) -> Result<Vec<RowNote>, Memory>
     ensures { IfOk result (λ notes. notes.items ≡ replicate classes Unknown) }
 {
@@ -144,7 +144,7 @@ fn unknown(alloc: Global, classes: usize) -> Result<Vec<RowNote>, Memory>
 }
 
 impl KnownRow {
-    /// A row of which nothing is learnt at so many classes.
+    /// A row of which nothing is learnt at any of its classes.
     pub fn new(
         alloc: Global,
         row: TextRow,

@@ -237,11 +237,11 @@ keeps_more a b d p q = record {
 pub scan_over : (t t' : Transducer) (g g' : Graph) (rows : List HeldRow) (q n : ℕ) (piece : List ℕ) (at row : ℕ) (marks : List ℕ) (acts : List LeapAct) → t ≡ t' → g ≡ g' → HasScanned t g.nodes rows q n piece at row marks acts → HasScanned t' g'.nodes rows q n piece at row marks acts
 scan_over t t' g g' rows q n piece at row marks acts e f s = subst (λ (g : Graph). HasScanned t' g.nodes rows q n piece at row marks acts) f (subst (λ t. HasScanned t g.nodes rows q n piece at row marks acts) e s)
 
--- acts are put behind others
+-- acts are put after others
 pub more_acts : (first acts more acts' : List LeapAct) → (l : List LeapAct) × (acts ≡ first ++ l) → acts' ≡ acts ++ more → (l : List LeapAct) × (acts' ≡ first ++ l)
 more_acts first acts more acts' h e = (h.0 ++ more, e ∙ ap (λ l. l ++ more) h.1 ∙ append_assoc first h.0 more)
 
--- the front of acts stays where more come behind them
+-- the front of acts stays where more come after them
 pub acts_front : (first acts : List LeapAct) (n : ℕ) → n ≤ length first → (l : List LeapAct) × (acts ≡ first ++ l) → take n acts ≡ take n first
 acts_front first acts n le h = ap (take n) h.1 ∙ take-append-le n first h.0 le
 

@@ -24,7 +24,7 @@ act_in piece (Effect n) = effect n
 abbrev pub acts_in : List ℕ → List LeapAct → List Act
 acts_in piece xs = map (λ x. act_in piece x) xs
 
--- a text lies within so many bytes
+-- a text lies within that many bytes
 abbrev pub IsActWithin : ℕ → LeapAct → Type 0
 IsActWithin high (Text a b) = (a ≤ b) × (b ≤ high)
 IsActWithin high (Effect n) = Unit {0}
@@ -32,7 +32,7 @@ IsActWithin high (Effect n) = Unit {0}
 abbrev pub AreActsWithin : ℕ → List LeapAct → Type 0
 AreActsWithin high xs = All (IsActWithin high) xs
 
--- an item of an edge at the byte behind so many
+-- an item of an edge at the byte after the first `at`
 abbrev pub leap_act : ℕ → List ℕ → HeldItem → LeapAct
 leap_act at marks (items.Slice i j) =
     Text (get_or (points_at at marks) i 0) (get_or (points_at at marks) j 0)

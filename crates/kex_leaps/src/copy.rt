@@ -2,10 +2,10 @@
 
 ghost use Rattle.std.specs.Prelude.{◌≡◌, ◌+◌, ◌≤◌, ◌++◌, ℕ, length, take, drop};
 
-/// How many bytes are copied at once. A copy of so many is one load and one store.
+/// How many bytes are copied at once. A copy of that many is one load and one store.
 pub const AT_ONCE: usize = 16;
 
-/// Copies sixteen bytes over what stands behind the first so many. Of what is copied as many bytes
+/// Copies sixteen bytes over what comes after the first `behind`. Of what is copied as many bytes
 /// count as the caller says.
 #[inline(always)]
 pub fn copy_at_once(from: &[u8], at: usize, to: &mut [u8], behind: usize)

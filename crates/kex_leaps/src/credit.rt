@@ -58,7 +58,7 @@ impl Credit {
         }
     }
 
-    /// Whether an edge of a row with so many lists may be learnt. It counts then.
+    /// Whether an edge of a row with that many lists may be learnt. It counts then.
     pub fn spend(&mut self, lists: usize) -> bool {
         let most = FIRST.saturating_add(self.scans / SCANS);
         if self.learnt >= most {

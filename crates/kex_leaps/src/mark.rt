@@ -21,7 +21,7 @@ pub struct Trace {
     pub spare: Vec<usize>,
 }
 
-// Where a point of an edge lies at the byte behind so many.
+// Where a point of an edge lies at the byte after the first `at`.
 #[inline(always)]
 fn point_of(marks: &[usize], at: usize, number: u8) -> usize
     requires fits { at + 1 < 2 ^ 64 }
@@ -36,7 +36,7 @@ fn point_of(marks: &[usize], at: usize, number: u8) -> usize
     at + (number - count)
 }
 
-// What an item is at the byte behind so many.
+// What an item is at the byte after the first `at`.
 #[inline(always)]
 fn place(marks: &[usize], at: usize, item: HeldItem) -> LeapAct
     requires fits { at + 1 < 2 ^ 64 }
@@ -52,7 +52,7 @@ fn place(marks: &[usize], at: usize, item: HeldItem) -> LeapAct
     }
 }
 
-// Puts items behind acts.
+// Puts items after acts.
 #[inline(always)]
 fn put_acts(
     marks: &[usize],
@@ -71,7 +71,7 @@ fn put_acts(
     Ok(())
 }
 
-// Puts points of an edge behind one another.
+// Puts points of an edge one after another.
 #[inline(never)]
 fn put_points(marks: &[usize], at: usize, keep: &[u8], out: &mut Vec<usize>) -> Result<(), Memory>
     requires fits { at + 1 < 2 ^ 64 }
@@ -86,7 +86,7 @@ fn put_points(marks: &[usize], at: usize, keep: &[u8], out: &mut Vec<usize>) -> 
     Ok(())
 }
 
-// Whether one point alone stays behind so many, and is the place of the byte behind so many marks.
+// Whether one point alone comes after the first `front`, and is that of the byte after the marks.
 #[inline(always)]
 fn ends_at_byte(keep: &[u8], front: usize, marks: usize) -> bool
     requires { front ≤ length keep.now }
@@ -164,7 +164,7 @@ impl Trace {
         self.acts.clear();
     }
 
-    /// Notes what goes to the output at the byte behind so many, and keeps some points as marks.
+    /// Notes what goes to the output at the byte after `at` others, and keeps some points as marks.
     #[inline(always)]
     pub fn take(&mut self, edge: &KnownEdge, at: usize) -> Result<(), Memory>
         requires fits { at + 1 < 2 ^ 64 }

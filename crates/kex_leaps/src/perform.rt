@@ -51,7 +51,7 @@ fn put_on(sheet: &mut Sheet, piece: &[u8], from: usize, to: usize)
     put_many(sheet, &piece[from..to]);
 }
 
-// Hands on what stands on a sheet, where there is no room for so many bytes.
+// Hands on what is on a sheet, where there is no room for `count` bytes.
 #[inline(always)]
 fn make_place(
     node: u32,
@@ -79,7 +79,7 @@ fn make_place(
     Ok(())
 }
 
-// Does what a node does: on a sheet, or where it can't be done there, behind what stands on it.
+// Does what a node does: on a sheet, or where it can't be done there, after what is on it.
 fn act(
     node: u32,
     by: u32,

@@ -16,7 +16,7 @@ use kex_held_rows::book::RowLedger;
 use kex_held_rows::note::RowNote;
 use kex_sst::table::Table;
 
-/// So many bytes, and the state and the node to which they lead, over one leap or several.
+/// How many bytes, and the state and the node to which they lead, over one leap or several.
 #[derive(Clone, Copy, Debug, PartialEq, Eq)]
 pub struct Leap {
     pub count: usize,
@@ -158,7 +158,7 @@ fn learn_at(ledger: &mut RowLedger, table: &Table, row: u32, byte: u8) -> Result
     ledger.learn(row as usize, class)
 }
 
-// Whether a leap begins behind so many bytes, at a row that holds nothing, along an edge that is
+// Whether a leap begins after `at` bytes, at a row that holds nothing, along an edge that is
 // known.
 #[inline(always)]
 fn leads_on(ledger: &RowLedger, table: &Table, row: u32, piece: &[u8], at: usize) -> bool
@@ -242,7 +242,7 @@ pub fn scan_from(
 
 /// Goes along a piece from a state without registers, where the actor is at a node, up to another
 /// such state. `None` where the piece ends before that, and where it can't be learnt. Not inlined:
-/// within a long caller what the loop reads for each byte would stand in memory.
+/// within a long caller what the loop reads for each byte would be kept in memory.
 #[inline(never)]
 pub fn scan(
     table: &Table,

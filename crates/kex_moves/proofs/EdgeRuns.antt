@@ -30,7 +30,7 @@ use Rattle.kex_moves.specs.Along.{bare, GoesAlong, Reached, RunsOn}
 use Rattle.kex_moves.proofs.KnownEdges.{at_of, known_if}
 use Rattle.kex_moves.proofs.PlacedTexts.{adding_more, adding_none}
 
--- what stands behind a step
+-- what a step comes from
 record Stands (k : Known) (row b : ℕ) (w : runs.RunStep) : Type 0 where
   class : ℕ
   class_is : slice_get k.classes b ≡ Some class

@@ -102,7 +102,7 @@ parts_of zero (suc n) = inl (omega arith)
 parts_of (suc i) zero = inr (omega arith)
 parts_of (suc i) (suc n) = ⊎_elim (λ h. inl (omega arith)) (λ h. inr (omega arith)) (parts_of i n)
 
--- an edge is as right with other rows and edges behind the old ones, where what it makes is the same
+-- an edge is as right with other rows and edges after the old ones, where what it makes is the same
 right_moved : (t : Transducer) (nodes : List MNode) (k k' : Known) (p : Pair) (class : ℕ) (e : Edge) → ((row : ℕ) (q : Pair) → IsPairRow k row q → IsPairRow k' row q) → ((b : ℕ) (s : ActingState) → makes nodes k e b s ≡ makes nodes k' e b s) → IsRight t nodes k p class e → IsRight t nodes k' p class e
 right_moved t nodes k k' p class e rows same r = record {
   by = r.by;
@@ -272,7 +272,7 @@ known_put t g k new row class p e h r lt right o is = subst (λ x. IsKnown t g x
         let pair : p ≡ p' = some_same p p' (slice_get k.pairs number) (sym (ap (slice_get k.pairs) both.0) ∙ r.at) at in
         subst (λ x. IsRight t g.nodes k p' class' x) same (subst (λ x. IsRight t g.nodes k p' x e) both.1 (subst (λ x. IsRight t g.nodes k x class e) pair (right (ap (λ (x : Edge). is_known x.kind) same ∙ known))))
 
--- an edge that was right is right as it stands in a row
+-- an edge that was right is right as it is in a row
 makes_at_row : (nodes : List MNode) (k : Known) (e : Edge) (b : ℕ) (s : ActingState) → is_written e.kind ≡ true → makes nodes k e b s ≡ with_bytes (writes k.text e b) s
 makes_at_row nodes k e b s w = ap (λ x. cond x (with_bytes (writes k.text e b) s) (after_actions nodes b (take e.adds (drop e.from k.acts)) s)) w
 

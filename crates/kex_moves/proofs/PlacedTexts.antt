@@ -38,7 +38,7 @@ set_more xs ys p b (inr h) = set_past (xs ++ ys) p b (omega (arith, length-appen
 pub more_room : (xs ys : List ℕ) (p : ℕ) → HasPlace xs p → length xs + length ys ≤ 16 → (p < length xs) ⊎ (length xs + length ys ≤ p)
 more_room xs ys p h k = elim h.place [ inl a ↦ inl a | inr a ↦ inr (omega arith) ]
 
--- the byte behind it
+-- the byte after it
 pub byte_text : (p q b : ℕ) (xs : List ℕ) → HasPlace xs p → 16 ≤ p → q ≡ length xs → set xs p b ++ b ∷ [] ≡ set (xs ++ 0 ∷ []) q b
 byte_text p q b xs h k e = ap (λ l. l ++ b ∷ []) (set_past xs p b (omega (arith, h.count))) ∙ sym (set_at xs 0 [] b q (sym e))
 

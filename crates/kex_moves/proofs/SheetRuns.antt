@@ -32,7 +32,7 @@ as_position a n z = record { machine = a.machine; at = n; holding = record { buf
 blank_state : (s : Sheet) (out : List ℕ) (h : Holding) → IsBlank s → state_with s out h ≡ state_of out h
 blank_state s out h b = ap₂ (λ n ms. with_marked_bytes (take n s.bytes.items) (reverse ms) (state_of out h)) b.0 b.1 ∙ laid_none (state_of out h)
 
--- a sheet on which nothing stands
+-- a sheet on which nothing is
 pub blank_position : (a : Position) (n : ℕ) (s : Sheet) (out : List ℕ) → IsBlank s → n ≡ a.at → IsTrue a.usable → with_sheet a n s out ≡ a
 blank_position a n s out b at usable =
     ap (as_position a n) (blank_state s out a.holding b)
@@ -52,7 +52,7 @@ moved a b n m s s' x y f machine refused e d does =
     let went = went_on a.machine n m h h' a.refused true true d z.out z'.out leads in
     subst (λ r. WentOn (position a.machine n h a.refused true) (position b.machine m h' r true) d d z.out z'.out) (sym refused) (subst (λ g. WentOn (position a.machine n h a.refused true) (position g m h' a.refused true) d d z.out z'.out) (sym machine) went)
 
--- what a run wrote is the bytes that stand behind those that stood before
+-- what a run wrote is the bytes that come after those that were there before
 record Put (k : Known) (s s' : Sheet) (row row' at : ℕ) (piece : List ℕ) : Type 0 where
   pub bytes : List ℕ
   pub stop : record { written = bytes; row = row'; left = drop at piece } ≡ run_of (rows_of k) row piece
@@ -150,7 +150,7 @@ reached_from t k k' a a' b s s' s'' row row' bs x x' y same f q n h =
     let from : with_sheet a' n s' x' ≡ with_sheet a n s x = subst (λ m. with_sheet a' m s' x' ≡ with_sheet a m s x) h.3 e.0 in
     subst (λ u. ReachedWith t k' u b s'' q row' bs (written_with a s x) y) from (subst (λ u. ReachedWith t k' (with_sheet a' n s' x') b s'' q row' bs u y) e.1 (f q n h))
 
--- what stands up to more is no less
+-- what there is up to more is no less
 pub longer : (u u' : ℕ) (b b' w : List ℕ) → u ≤ length b → u' ≤ length b' → take u' b' ≡ take u b ++ w → u ≤ u'
 longer u u' b b' w h h' e = omega (arith, length-take-le u b h, length-take-le u' b' h', ap length e ∙ length-append (take u b) w)
 

@@ -23,7 +23,7 @@ trail_more edges text width (q ∷ ps) p e s z y trail step is = (trail.0, trail
 pub trail_next : (edges : List Edge) (text : List ℕ) (width : ℕ) (ps : List ByteWord) (at : ℕ) (e : Edge) (s z y : RunStep) → at < length ps → IsTrail edges text width (take at ps) s z → IsWrittenEdge edges width z.row (get_or ps at no_piece) e → y ≡ record { row = e.next; writes = z.writes ++ writes text e (get_or ps at no_piece).byte } → IsTrail edges text width (take (at + 1) ps) s y
 trail_next edges text width ps at e s z y h trail step is = subst (λ l. IsTrail edges text width l s y) (sym (take_more ps at no_piece h)) (trail_more edges text width (take at ps) (get_or ps at no_piece) e s z y trail step is)
 
--- one trail behind another
+-- one trail after another
 trail_joined : (edges : List Edge) (text : List ℕ) (width : ℕ) (ps qs : List ByteWord) (s z y : RunStep) → IsTrail edges text width ps s z → IsTrail edges text width qs z y → IsTrail edges text width (ps ++ qs) s y
 trail_joined edges text width [] qs s z y same more = subst (λ (q : RunStep). IsTrail edges text width qs q y) same more
 trail_joined edges text width (p ∷ ps) qs s z y trail more = (trail.0, trail.1, trail_joined edges text width ps qs (record { row = trail.0.next; writes = s.writes ++ writes text trail.0 p.byte }) z y trail.2 more)
@@ -55,7 +55,7 @@ over_unwritten edges width row pieces at e h read none = over_at edges width row
     same : (f : Edge) → Some f ≡ Some e → is_written f.kind ≡ true → ⊥
     same f is written = cc
 
--- what is written stands behind what stood before
+-- what is written comes after what was there before
 pub trail_writes : (edges : List Edge) (text : List ℕ) (width : ℕ) (ps : List ByteWord) (s z : RunStep) → IsTrail edges text width ps s z → (bytes : List ℕ) × (z.writes ≡ s.writes ++ bytes)
 trail_writes edges text width [] s z same = ([], ap (λ (q : RunStep). q.writes) same ∙ sym (append-nil s.writes))
 trail_writes edges text width (p ∷ ps) s z trail =

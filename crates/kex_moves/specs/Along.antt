@@ -30,14 +30,14 @@ pub record GoesAlong (t : Transducer) (old new : Position) (q r : ℕ)
   pub takes : (x : List Symbol) → TakesCode old.machine.nodes old.at (said ++ x)
       → TakesCode new.machine.nodes new.at x
 
--- the same, to the row of a state and of the node where the actor stands
+-- the same, to the row of a state and of the node where the actor is
 pub record Reached (t : Transducer) (k : Known) (old new : Position) (q row : ℕ)
     (bs before after : List ℕ) : Type 0 where
   pub state : ℕ
   pub row_for : HasRowFor k row state new.at
   pub goes : GoesAlong t old new q state bs before after
 
--- the actor, as if what stands on the sheet were handed on at a node
+-- the actor, as if what is on the sheet were handed on at a node
 abbrev pub with_sheet : Position → ℕ → Sheet → List ℕ → Position
 with_sheet a n s out = let z = state_with s out a.holding
     in record {

@@ -31,7 +31,7 @@ pub record RunStop : Type 0 where
   pub row : ℕ
   pub left : List ℕ
 
--- the same behind what stood before
+-- the same after what was there before
 abbrev pub stop_behind : List ℕ → RunStop → RunStop
 stop_behind xs s = record { written = xs ++ s.written; row = s.row; left = s.left }
 
@@ -45,7 +45,7 @@ run_of t row [] = record { written = []; row = row; left = [] }
 run_of t row (b ∷ bs) = on_step (record { written = []; row = row; left = b ∷ bs }) (λ w.
     stop_behind w.writes (run_of t w.row bs)) (edge_step t row b)
 
--- a run over the bytes of a piece from number i on, behind what stood before
+-- a run over the bytes of a piece from number i on, after what was there before
 abbrev pub run_from : Rows → List ℕ → List ℕ → ℕ → ℕ → RunStop
 run_from t piece xs row i = stop_behind xs (run_of t row (drop i piece))
 
@@ -77,7 +77,7 @@ abbrev pub StopsAt : List ℕ → List Edge → ℕ → ℕ → List ℕ → Edg
 StopsAt classes edges row at piece e = (at < length piece)
     × IsEdgeAt classes edges row (get_or piece at 0) e
 
--- what edges write lies within so many bytes of text
+-- what edges write lies within that many bytes of text
 abbrev pub HasRoomBelow : ℕ → List Edge → Type 0
 HasRoomBelow n edges = All (λ (e : Edge). is_written e.kind ≡ true → HasRoom n e) edges
 

@@ -28,7 +28,7 @@ words_table words = record {
   states = record { registers = 0; accepting = None; go = map says_word words } ∷ [];
 }
 
--- what was given begins no run's code with these symbols behind it
+-- what was given begins no run's code with these symbols after it
 abbrev pub RefusesCode : Position → List Symbol → Type 0
 RefusesCode a symbols = (given c : List Symbol) (written : List ℕ) → HasPerformed a given c written
     → BeginsRun a.machine (given ++ symbols) → ⊥

@@ -13,7 +13,7 @@ pub record IsWrittenEdge (edges : List Edge) (width row : ℕ) (p : ByteWord)
   pub edge : slice_get edges (row + p.word) ≡ Some e
   pub written : is_written e.kind ≡ true
 
--- along the pieces edges are written from one row to another, behind what stood before
+-- along the pieces edges are written from one row to another, after what was there before
 abbrev pub IsTrail : List Edge → List ℕ → ℕ → List ByteWord → RunStep → RunStep → Type 0
 IsTrail edges text width [] s z = z ≡ s
 IsTrail edges text width (p ∷ ps) s z = (e : Edge) × IsWrittenEdge edges width s.row p e × IsTrail

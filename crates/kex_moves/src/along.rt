@@ -31,7 +31,7 @@ use std::alloc::Global;
 /// How many bytes are gone over at once.
 pub const PART: usize = 4_096;
 
-/// How many bytes may stand on a sheet when a part is begun.
+/// How many bytes may be on a sheet when a part is begun.
 const MOST: usize = 16_384;
 
 /// Room for these, and for what is written for a part: 17 bytes for each of its bytes, and 17 more.
@@ -158,7 +158,7 @@ pub fn act(
 }
 
 // Takes a byte with its edge, if that opens a buffer or has actions. It stops at another one, and
-// where much stands on the sheet.
+// where much is on the sheet.
 #[inline(always)]
 fn act_at(
     edges: &Edges,
@@ -255,8 +255,8 @@ fn act_next(
 }
 
 // Goes along edges of a part of a piece, up to one that is plain or isn't learnt, or until much
-// stands on the sheet. Not inlined: within a long caller what the loop reads for each byte would
-// stand in memory.
+// is on the sheet. Not inlined: within a long caller what the loop reads for each byte would be
+// kept in memory.
 #[inline(never)]
 fn along_acting(
     edges: &Edges,
@@ -318,7 +318,7 @@ fn learn_at(
     }
 }
 
-/// Hands on what stands on a sheet, at the node of a row. Tells the row's state.
+/// Hands on what is on a sheet, at the node of a row. Tells the row's state.
 pub fn arrive(
     edges: &Edges,
     row: usize,
@@ -343,7 +343,7 @@ pub fn arrive(
     Ok(pair.state)
 }
 
-/// Hands on what stands on a sheet where there is much.
+/// Hands on what is on a sheet where there is much.
 pub fn make_room(
     edges: &Edges,
     row: usize,
@@ -426,7 +426,7 @@ fn go_past(
     Ok(gone)
 }
 
-// Goes on from a row over a part of a piece, and past the byte behind it.
+// Goes on from a row over a part of a piece, and past the byte after it.
 fn go_on(
     alloc: Global,
     table: &Table,

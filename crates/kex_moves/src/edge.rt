@@ -100,7 +100,7 @@ impl Edge {
         Edge::silent(EdgeKind::Plain)
     }
 
-    // The edge as it stands in a row: it keeps or drops only where it leads back to the row.
+    // The edge as it is in a row: it keeps or drops only where it leads back to the row.
     pub fn at_row(self, row: usize) -> Edge
         ensures at { IsAtRow row result }
         ensures same { (result ≡ self)

@@ -133,7 +133,7 @@ fn push_row(
     Ok(())
 }
 
-// The place behind so many things, if there may be one more.
+// The place after `count` things, if there may be one more.
 fn place_behind(count: usize, most: usize) -> Option<u32>
     ensures { IfSome result (λ place. place ≡ count) }
 {
@@ -143,7 +143,7 @@ fn place_behind(count: usize, most: usize) -> Option<u32>
     u32::try_from(count).ok()
 }
 
-// What kind of edge writes so many bytes, of which the one read stands at a place.
+// What kind of edge writes `count` bytes, of which the one read is at a place.
 fn kind_of(place: usize, count: usize) -> EdgeKind
     ensures written { is_written result ≡ true }
     ensures keeps { result ≡ EdgeKind.Keep → (place ≡ 0) × (count ≡ 1) }
@@ -182,7 +182,7 @@ fn append_text(text: &mut Vec<u8>, bytes: &[u8]) -> Result<(), Memory>
 }
 
 impl Edges {
-    /// Nothing is learnt. A row has 2 to the power of `shift` edges, and there are so many states
+    /// Nothing is learnt. A row has 2 to the power of `shift` edges, and there are `count` states
     /// or nodes by which pairs are looked for.
     pub fn new(
         alloc: Global,
@@ -227,7 +227,7 @@ impl Edges {
         matches!(self.by, By::State)
     }
 
-    // Where the head of the pairs stands among which the pair of a state and a node is.
+    // Where the head of the pairs is among which the pair of a state and a node is.
     #[inline(always)]
     fn slot_of(&self, state: u32, node: u32) -> u32 {
         match self.by {
@@ -386,8 +386,8 @@ impl Edges {
         })
     }
 
-    /// An edge to `next` at which the actions are done. Whether they only open a buffer and write
-    /// the byte is told.
+    /// An edge to `next` at which the actions are done. The caller says whether they only open a
+    /// buffer and write the byte.
     pub fn acts_edge(
         &mut self,
         next: usize,
@@ -430,7 +430,7 @@ impl Edges {
         self.learnt = self.learnt.saturating_add(1);
     }
 
-    /// Goes along edges from a row while they are written, behind what is used of a buffer.
+    /// Goes along edges from a row while they are written, after what is used of a buffer.
     #[inline(always)]
     pub fn run(&self, row: usize, piece: &[u8], buffer: &mut [u8], used: usize) -> Halt
         requires row { (p : Pair) × IsPairRow self.now row p }
@@ -466,7 +466,7 @@ impl Edges {
         self.width
     }
 
-    /// Goes along edges from a row by the words of pieces while they are written, behind what is
+    /// Goes along edges from a row by the words of pieces while they are written, after what is
     /// used of a buffer.
     pub fn follow(
         &self,

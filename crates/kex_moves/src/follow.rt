@@ -50,8 +50,8 @@ fn stay(
     count
 }
 
-/// Goes along edges while they are written. A row has so many edges as its width.
-// Not inlined: within a long caller what the loop reads for each piece would stand in memory.
+/// Goes along edges while they are written. A row has as many edges as its width.
+// Not inlined: within a long caller what the loop reads for each piece would be kept in memory.
 #[inline(never)]
 pub fn follow(
     edges: &[Edge],

@@ -23,7 +23,7 @@ const MOST: usize = 256;
 /// What the words of a list do at the nodes of a machine: an edge for each node and word, learnt
 /// when it is first met.
 ///
-/// The first 256 words have edges; those behind them are performed symbol by symbol. Once a call
+/// The first 256 words have edges; those after them are performed symbol by symbol. Once a call
 /// has answered `Memory` the actor may only be dropped, and each later call answers it too.
 #[derive(Drop)]
 pub struct Phrases<'p> {

@@ -17,11 +17,11 @@ pub struct SheetPoint {
     pub used: usize,
 }
 
-/// How many bytes of a run are copied at once. For so many it is asked once whether they are there.
+/// How many bytes of a run are copied at once. For that many it is asked once if they are there.
 const EIGHT: usize = 8;
 
-// Copies eight bytes behind the first so many of a piece over those behind the first so many of a
-// buffer. Of what is copied as many bytes count as the caller says.
+// Copies eight bytes of a piece from `at` on over those of a buffer from `to` on. Of what is copied
+// as many bytes count as the caller says.
 #[inline(always)]
 fn copy_eight(piece: &[u8], to: &mut [u8], at: usize)
     requires from { at + 8 ≤ length piece.now }
@@ -36,7 +36,7 @@ fn copy_eight(piece: &[u8], to: &mut [u8], at: usize)
     to[at..at + EIGHT].copy_from_slice(&copy);
 }
 
-// How many of the eight bytes behind the first so many the edges of a row keep, up to another one.
+// How many of the eight bytes from `at` on the edges of a row keep, up to another one.
 // The loop has a fixed end, so that it is unrolled.
 #[inline(always)]
 fn kept_of_eight(classes: &[u8; 256], edges: &[Edge], piece: &[u8], at: usize) -> usize
@@ -84,7 +84,7 @@ fn keep(classes: &[u8; 256], edges: &[Edge], piece: &[u8], to: &mut [u8]) -> usi
     count
 }
 
-// How many of the eight bytes behind the first so many the edges of a row drop, up to another one.
+// How many of the eight bytes from `at` on the edges of a row drop, up to another one.
 #[inline(always)]
 fn dropped_of_eight(classes: &[u8; 256], edges: &[Edge], piece: &[u8], at: usize) -> usize
     requires row { All (λ c. c < length edges.now) classes.now }

@@ -17,7 +17,7 @@ use kex_machine::{Effect, MNode, Trimmed};
 use std::alloc::Global;
 
 /// Of a text of at most 16 bytes the place of the byte read, 16 where it has none, and how many
-/// buffers were opened behind it that nothing is kept of.
+/// buffers were opened after it that nothing is kept of.
 #[derive(Clone, Copy, Debug, PartialEq, Eq)]
 pub struct EdgeDraft {
     pub place: usize,
