@@ -126,11 +126,22 @@ abbrev pub with_subcommands : App → List App → App
 with_subcommands app [] = app
 with_subcommands app (sub ∷ subs) = with_subcommands (with_subcommand app sub.top) subs
 
+-- with the commands up to `code`
+abbrev pub app_to_code : App
+app_to_code = with_subcommands bare_app
+    (run_app ∷ program_app (codes "check") ∷ stage_app (codes "code") ∷ [])
+
+-- with the commands up to `test`
+abbrev pub app_to_test : App
+app_to_test = with_subcommands app_to_code (stage_app (codes "act") ∷ stage_app (codes "test") ∷ [])
+
+-- with the commands up to `compile`
+abbrev pub app_to_compile : App
+app_to_compile = with_subcommands app_to_test (trial_app ∷ program_app (codes "compile") ∷ [])
+
 -- one of these subcommands, which is required
 abbrev pub kex_app : App
-kex_app = with_subcommands bare_app (run_app ∷ program_app (codes "check")
-    ∷ stage_app (codes "code") ∷ stage_app (codes "act") ∷ stage_app (codes "test")
-    ∷ trial_app ∷ program_app (codes "compile") ∷ exec_app ∷ each_app ∷ [])
+kex_app = with_subcommands app_to_compile (exec_app ∷ each_app ∷ [])
 
 -- the line of words that are out of form
 abbrev pub usage_line : List ℕ

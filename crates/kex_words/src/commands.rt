@@ -2,7 +2,8 @@
 ghost use Rattle.std.specs.Prelude.{◌≡◌, IfOk, option_map, false};
 ghost use Rattle.clap.specs.Words.{app_of, found_of, rows_of, subcommand_rows_of, with_subcommand};
 ghost use Rattle.clap.specs.declared.builder.command.Command.TheViews.{out-Command};
-ghost use Rattle.kex_words.specs.Words.{bare_app, each_app, exec_app, kex_app, program_app};
+ghost use Rattle.kex_words.specs.Words.{app_to_code, app_to_compile, app_to_test, bare_app, each_app};
+ghost use Rattle.kex_words.specs.Words.{exec_app, kex_app, program_app};
 ghost use Rattle.kex_words.specs.Words.{run_app, stage_app, trial_app};
 ghost use Rattle.kex_words.specs.Words.{asked_by_command, asked_in, mode_of, program_in, reach_in};
 ghost use Rattle.kex_words.specs.Words.{block_in, lines_in, max_input_in, rings_in, room_of};
@@ -135,18 +136,35 @@ fn with<'a>(form: Form<'a>, command: Form<'a>) -> Result<Form<'a>, AllocError>
     form.subcommand(command)
 }
 
+// A chain of all commands in one function is too long for its proof.
+
+fn form_to_code<'a>(alloc: Global) -> Result<Form<'a>, AllocError>
+    ensures { IfOk result (λ form. app_of form ≡ app_to_code) }
+{
+    let form = with(bare(alloc), run(alloc)?)?;
+    let form = with(form, on_program(alloc, "check")?)?;
+    with(form, on_stage(alloc, "code")?)
+}
+
+fn form_to_test<'a>(alloc: Global) -> Result<Form<'a>, AllocError>
+    ensures { IfOk result (λ form. app_of form ≡ app_to_test) }
+{
+    let form = with(form_to_code(alloc)?, on_stage(alloc, "act")?)?;
+    with(form, on_stage(alloc, "test")?)
+}
+
+fn form_to_compile<'a>(alloc: Global) -> Result<Form<'a>, AllocError>
+    ensures { IfOk result (λ form. app_of form ≡ app_to_compile) }
+{
+    let form = with(form_to_test(alloc)?, trial(alloc)?)?;
+    with(form, on_program(alloc, "compile")?)
+}
+
 /// The form of the command line: one of these commands, which is required.
 pub(crate) fn form<'a>(alloc: Global) -> Result<Form<'a>, AllocError>
     ensures { IfOk result (λ form. app_of form ≡ kex_app) }
 {
-    let form = with(bare(alloc), run(alloc)?)?;
-    let form = with(form, on_program(alloc, "check")?)?;
-    let form = with(form, on_stage(alloc, "code")?)?;
-    let form = with(form, on_stage(alloc, "act")?)?;
-    let form = with(form, on_stage(alloc, "test")?)?;
-    let form = with(form, trial(alloc)?)?;
-    let form = with(form, on_program(alloc, "compile")?)?;
-    let form = with(form, exec(alloc)?)?;
+    let form = with(form_to_compile(alloc)?, exec(alloc)?)?;
     with(form, each(alloc)?)
 }
 
