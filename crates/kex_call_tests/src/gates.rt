@@ -112,6 +112,7 @@ run p --workers=3 # %a%2000% # 3
 run p --workers=64 # %a%5% # 5
 run p --workers=2 --rings=1 # %a%1000% # 65
 trial 1 --workers=2 #  # 4
+trial 3 --workers=2 --block=1 #  # 2
 run p --rings=1 # %a%1000% # 65
 run p --rings=1 # %a%2000% # 66
 run p --rings=2 # %a%2000% # 65

@@ -21,7 +21,7 @@ const ROUNDS: u32 = 64;
 /// How often each stage looks in a round.
 const LOOKS: u32 = 16;
 
-/// So many bytes at most are given at once, however little comes of them.
+/// At most this many bytes are given at once, however little comes of them.
 const LONGEST: usize = 65_536;
 
 /// How the input is cut for stages over rings, and how much each took in the last round.

@@ -12,10 +12,10 @@ use kex_ports::Gate;
 use kex_rounds::round::round;
 use std::thread::Threads;
 
-/// So many bytes of output are worth a write before the block is worked off.
+/// This many bytes of output are worth a write before the block is worked off.
 pub(crate) const ENOUGH: usize = 65_536;
 
-/// Where so many bytes are output or wait before a stage, no more is given before what waits is
+/// Where this many bytes are output or wait before a stage, no more is given before what waits is
 /// worked off and written.
 pub(crate) const MUCH: usize = 1_048_576;
 

@@ -18,7 +18,7 @@ const WORTH_HELD: usize = 20_480;
 // How many more for each state: what is known of it comes to another processor with a thread.
 const WORTH_STATE: usize = 64;
 
-/// How long pieces are, so that each desk's part is long, and whether desks had one to share.
+/// How long pieces are, so that each desk's part is long, and whether desks had two bytes to share.
 #[derive(Clone, Copy)]
 pub(crate) struct Sharing {
     length: PieceLength,
@@ -92,9 +92,9 @@ impl Sharing {
         self.length.bytes()
     }
 
-    /// The fewest bytes of a part, where so many wait before a stage. One thread does without a
-    /// start, and each other one has enough bytes for it. The first piece of a run that has two
-    /// bytes is shared whatever its length, so that desks meet in any run.
+    /// The fewest bytes of a part, where `waiting` bytes wait before a stage. One thread does
+    /// without a start, and each other one has enough bytes for it. The first time that two bytes
+    /// wait before a stage they are shared, however few they are, so that desks meet in any run.
     pub(crate) fn least(&self, waiting: usize) -> usize
         ensures { 0 < result }
     {
@@ -105,10 +105,10 @@ impl Sharing {
         (waiting / parts).max(1)
     }
 
-    /// Learns how many bytes were given, and how many at most lay before a stage for them or are
-    /// output.
-    pub(crate) fn learn(&mut self, given: usize, most: usize) {
-        self.begun = self.begun || given > 1;
-        self.length.learn(given, most);
+    /// Learns how many bytes were given, how many at most lay before a stage for them, and how many
+    /// are output.
+    pub(crate) fn learn(&mut self, given: usize, waited: usize, output: usize) {
+        self.begun = self.begun || waited > 1;
+        self.length.learn(given, waited.max(output));
     }
 }

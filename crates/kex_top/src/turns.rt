@@ -66,8 +66,8 @@ pub(crate) fn give_front<R: Threads + Sync, T: Limited + Drop, G: Gate + Sync>(
     'pieces: while given < bytes.len() {
         let end = bytes.len().min(given + sharing.piece());
         pipe.give(&bytes[given..end])?;
-        let most = work_off(rt, pipe, gate, sharing)?;
-        sharing.learn(end - given, most.max(pipe.output_length()));
+        let waited = work_off(rt, pipe, gate, sharing)?;
+        sharing.learn(end - given, waited, pipe.output_length());
         given = end;
         if pace == Pace::Parts && is_due(pipe) {
             return Ok(given);

@@ -28,9 +28,9 @@ pieces-preserved g c =
       within = within;
       given = λ ps h taken s.
           piece-given t.gives ps (λ k. Stands t ps l.pipe k taken) (λ k. Stands t ps c.work_off.new.pipe k taken) h (take l.given bytes) part (take end bytes) (front-more bytes l.given end past)
-          (λ k st. c.in_ok-most.ensures.works ps (k ++ give part ∷ []) taken (c.in_ok-give.ensures.stands ps k taken st))
+          (λ k st. c.in_ok-waited.ensures.works ps (k ++ give part ∷ []) taken (c.in_ok-give.ensures.stands ps k taken st))
           (l.invariant.given ps h taken s);
-      unended = c.in_ok-most.ensures.ended ∙ c.give.ensures.ended ∙ l.invariant.unended;
+      unended = c.in_ok-waited.ensures.ended ∙ c.give.ensures.ended ∙ l.invariant.unended;
       closed = c.work_off.ensures.closed;
       going = search rules;
     }
@@ -44,5 +44,5 @@ returns-then-is_due-clause-given g c = λ ps h taken s.
     let part : List ℕ = take (end - l.given) (drop l.given bytes) in
     let past : l.given ≤ end = omega (arith, c.min-end.ensures, l.invariant.within) in
     piece-given t.gives ps (λ k. Stands t ps l.pipe k taken) (λ k. Stands t ps c.work_off.new.pipe k taken) h (take l.given bytes) part (take end bytes) (front-more bytes l.given end past)
-    (λ k st. c.in_ok-most.ensures.works ps (k ++ give part ∷ []) taken (c.in_ok-give.ensures.stands ps k taken st))
+    (λ k st. c.in_ok-waited.ensures.works ps (k ++ give part ∷ []) taken (c.in_ok-give.ensures.stands ps k taken st))
     (l.invariant.given ps h taken s)
