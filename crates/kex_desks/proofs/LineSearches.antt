@@ -1,27 +1,41 @@
--- The place behind the first line feed from another place on.
-use Rattle.std.proofs.Common.{◌≡◌, ℕ, ◌+◌, ◌-◌, ◌<◌, ◌≤◌, List, length, take, drop, sym, ap, subst, ◌∙◌, length-drop, arith}
+-- Line feeds that a search in a window of a piece finds.
+use Rattle.std.proofs.Common.{◌≡◌, ℕ, ◌+◌, ◌-◌, ◌<◌, ◌≤◌, List, length, take, drop, sym, ap, ◌∙◌, length-drop, get_or-take, arith}
 use Rattle.std.specs.Prelude.{slice_index_or}
 use Rattle.std.proofs.lemmas.Bool.{eqb-true, eq-eqb}
-use Rattle.std.proofs.lemmas.List.{get_or-drop, take_rest}
-use Rattle.memchr.specs.Find.{NoneBefore, Passes, is_byte}
-use Rattle.kex_desks.specs.PartCuts.{IsBehindNext}
+use Rattle.std.proofs.lemmas.List.{get_or-drop, length-take-le}
+use Rattle.memchr.specs.Find.{NoneAfter, NoneBefore, Passes, is_byte}
+use Rattle.kex_desks.specs.PartCuts.{IsAfterNext}
 
-module _ (piece : List ℕ) (from j : ℕ) (le : from ≤ length piece) where
-  abbrev rest : List ℕ
-  rest = drop from piece
+module _ (piece : List ℕ) (from to j : ℕ) (low : from ≤ to) (high : to ≤ length piece) where
+  abbrev window : List ℕ
+  window = take (to - from) (drop from piece)
 
-  behind_found : NoneBefore (Passes (is_byte 10) rest) 0 (length rest) j → Passes (is_byte 10) rest j → IsBehindNext piece from (from + j + 1)
-  behind_found none here =
-      let long = length-drop from piece in
+  long : length window ≡ to - from
+  long = length-take-le (to - from) (drop from piece) (let rest = length-drop from piece in omega (arith, low, high, rest))
+
+  -- a byte of the window is one of the piece
+  seen : (k : ℕ) → k < to - from → slice_index_or window k 0 ≡ slice_index_or piece (from + k) 0
+  seen k lt = get_or-take (to - from) (drop from piece) k 0 lt ∙ get_or-drop from piece k 0
+
+  found : j < to - from → Passes (is_byte 10) window j → slice_index_or piece (from + j + 1 - 1) 0 ≡ 10
+  found lt here = ap (λ n. slice_index_or piece n 0) (let e : from + j + 1 - 1 ≡ from + j = omega arith in e) ∙ sym (seen j lt) ∙ eqb-true _ 10 here
+
+  pub next_found : NoneBefore (Passes (is_byte 10) window) 0 (length window) j → Passes (is_byte 10) window j → IsAfterNext piece from (from + j + 1)
+  next_found none here =
+      let within = none.high in
+      let near : j < to - from = omega (arith, within, long) in
       record {
         ahead = omega arith;
-        within = (let high = none.high in omega (arith, high, long, le));
-        line = ap (λ n. slice_index_or piece n 0) (let e : from + j + 1 - 1 ≡ from + j = omega arith in e) ∙ sym (get_or-drop from piece j 0) ∙ eqb-true _ 10 here;
-        first = λ k low high is.
-            let there : from + (k - from) ≡ k = omega (arith, low) in
-            none.before (k - from) (omega arith) (omega (arith, low, high)) (eq-eqb _ 10 (get_or-drop from piece (k - from) 0 ∙ ap (λ n. slice_index_or piece n 0) there ∙ is));
+        within = omega (arith, near, high);
+        line = found near here;
+        first = λ k after before is.
+            let there : from + (k - from) ≡ k = omega (arith, after) in
+            let inside : k - from < to - from = omega (arith, after, before, near) in
+            none.before (k - from) (omega arith) (omega (arith, after, before)) (eq-eqb _ 10 (seen (k - from) inside ∙ ap (λ n. slice_index_or piece n 0) there ∙ is));
       }
 
-  -- what a search in the rest of the piece finds
-  pub next_found : let hay = take (length piece - from) (drop from piece) in NoneBefore (Passes (is_byte 10) hay) 0 (length hay) j → Passes (is_byte 10) hay j → IsBehindNext piece from (from + j + 1)
-  next_found = subst (λ hay. NoneBefore (Passes (is_byte 10) hay) 0 (length hay) j → Passes (is_byte 10) hay j → IsBehindNext piece from (from + j + 1)) (sym (take_rest piece from)) behind_found
+  pub last_found : NoneAfter (Passes (is_byte 10) window) 0 (length window) j → Passes (is_byte 10) window j → slice_index_or piece (from + j + 1 - 1) 0 ≡ 10
+  last_found none here =
+      let within = none.high in
+      let near : j < to - from = omega (arith, within, long) in
+      found near here

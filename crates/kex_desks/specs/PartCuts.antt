@@ -2,12 +2,12 @@
 use Rattle.std.specs.Prelude.{◌≡◌, ℕ, ◌≤◌, ◌<◌, ◌+◌, ◌-◌, ◌*◌, ◌/◌, ◌%◌}
 use Rattle.std.specs.Prelude.{List, length, min, slice_index_or}
 
--- how many bytes the first k of so many parts have, of which any two differ by one byte at most
+-- how many bytes the first k parts have, where any two parts differ by one byte at most
 abbrev pub even_cut : ℕ → ℕ → ℕ → ℕ
 even_cut bytes k parts = bytes / parts * k + min k (bytes % parts)
 
--- the place behind the first line feed from another place on
-pub record IsBehindNext (piece : List ℕ) (from at : ℕ) : Type 0 where
+-- the place after the first line feed from another place on
+pub record IsAfterNext (piece : List ℕ) (from at : ℕ) : Type 0 where
   pub ahead : from < at
   pub within : at ≤ length piece
   pub line : slice_index_or piece (at - 1) 0 ≡ 10

@@ -9,8 +9,8 @@ use crate::parts::whole_lines;
 use crate::place::KnowsPlace;
 use kex_code::memory::Memory;
 
-// So many bytes of a piece were read up to a stop, if there was one, and so many parts of them were
-// taken over.
+// How many bytes of a piece were read, up to a stop if there was one, and how many parts of them
+// were taken over.
 #[derive(Clone, Copy)]
 struct AllJoined {
     count: usize,
@@ -62,7 +62,7 @@ fn join_all<W: KnowsPlace>(
     })
 }
 
-/// The desks note where a worker stands behind a line, if it has read one.
+/// The desks note where a worker is after a line, if it has read one.
 pub fn sample_all<W: KnowsPlace>(worker: &W, desks: &mut [PieceDesk<W>], lines: bool)
     requires { All (λ d. W.machine d ≡ W.machine worker.now) desks.old }
     ensures { desks.new ≡ desks.old }
@@ -75,7 +75,8 @@ pub fn sample_all<W: KnowsPlace>(worker: &W, desks: &mut [PieceDesk<W>], lines: 
     }
 }
 
-/// A worker reads a piece from a place on. Its desks note where it stands behind the last line.
+/// A worker reads a piece from a place on. Its desks note where it is after the last line, if that
+/// ends near the end of the piece.
 fn read_on<W: KnowsPlace>(
     worker: &mut W,
     desks: &mut [PieceDesk<W>],
