@@ -47,7 +47,7 @@ module _ (Says : List ℕ → Option ℕ → List ℕ → Type 0) where
   comes_more F G H p q None x y z first then = goes_more F G H p q x y z first then
   comes_more F G H p q (Some at) x y z first then = reads_more F G H p q (Some at) x y z first then
 
-  -- what stands behind a stop doesn't matter
+  -- what comes after a stop doesn't matter
   pub reads_past : (F G : List ℕ → List ℕ → Type 0) (p q : List ℕ) (at : ℕ) (x y : List ℕ) → ((w v : List ℕ) (k : ℕ) (text : List ℕ) → Says w (Some k) text → Says (w ++ v) (Some k) text) → ReadsPiece Says F G p (Some at) x y → ReadsPiece Says F G (p ++ q) (Some at) x y
   reads_past F G p q at x y stopped first = record {
     reads = λ w text f.
@@ -77,7 +77,7 @@ pub no_stop : (stop : Option ℕ) → is_some stop ≡ false → stop ≡ None
 no_stop None e = refl
 no_stop (Some at) e = let bad : true ≡ false = e in cc
 
--- what stands behind a stop doesn't matter
+-- what comes after a stop doesn't matter
 pub stops_in_front : (Says : List ℕ → Option ℕ → List ℕ → Type 0) (F G : List ℕ → List ℕ → Type 0) (p q : List ℕ) (stop : Option ℕ) (x y : List ℕ) → ((w v : List ℕ) (k : ℕ) (text : List ℕ) → Says w (Some k) text → Says (w ++ v) (Some k) text) → is_some stop ≡ true → ComesTo Says F G p stop x y → ReadsPiece Says F G (p ++ q) stop x y
 stops_in_front Says F G p q None x y stopped e h = let bad : false ≡ true = e in cc
 stops_in_front Says F G p q (Some at) x y stopped e h = reads_past Says F G p q at x y stopped h

@@ -50,7 +50,7 @@ impl<W: KnowsPlace> Model for ChunkWorker<W> {
         × (vec_len s.desks ≤ 64) };
 }
 
-// So many desks of a worker's kind, which know where it stands.
+// Some desks for workers of one machine, which know where this one is.
 fn desks_of<W: KnowsPlace + Drop>(
     alloc: Global,
     worker: &W,
@@ -73,14 +73,14 @@ fn make_ready_all<W: KnowsPlace>(worker: &W, whole: bool, desks: &mut [PieceDesk
     ensures { desks.new ≡ desks.old }
 {
     let read = worker.count();
-    // Before the first byte is as good as behind a line.
+    // Before the first byte is as good as after a line.
     sample_all(worker, desks, read == 0);
     for k in 0..desks.len() {
         desks[k].make_ready(read, whole);
     }
 }
 
-// Whether desks know where their worker stood behind a line.
+// Whether desks know where their worker was after a line.
 fn knows_place<W: KnowsPlace + Drop>(desks: &[PieceDesk<W>]) -> bool {
     match desks.first() {
         None => false,

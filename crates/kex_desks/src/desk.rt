@@ -17,7 +17,7 @@ use std::mem;
 #[derive(Drop)]
 pub struct PieceDesk<W: KnowsPlace> {
     worker: W,
-    // Where a worker stood behind an earlier line, if that is known.
+    // Where a worker was after an earlier line, if that is known.
     sample: W::Place,
     sampled: bool,
     // How many bytes were read before the piece.
@@ -42,8 +42,8 @@ impl<W: KnowsPlace> Model for PieceDesk<W> {
         d.draft.place d.worker d.draft.bytes.items d.draft.text.items) };
 }
 
-/// So many bytes were read up to a stop, if there was one, and a part of them was taken over or
-/// wasn't.
+/// How many bytes were read, up to a stop if there was one, and whether a part of them was taken
+/// over.
 #[derive(Clone, Copy)]
 pub struct Joined {
     pub count: usize,
@@ -77,7 +77,7 @@ impl<W: KnowsPlace + Drop> PieceDesk<W> {
     }
 }
 
-// How many bytes there are before a draft behind so many, if the draft is of what follows those.
+// How many bytes there are from a place to a draft, if the draft is of what comes after it.
 fn ahead<P>(draft: &PartDraft<P>, at: usize, room: usize) -> Option<usize>
     ensures { IfSome result (λ n. n + length draft.now.bytes.items ≤ room) }
 {
@@ -101,7 +101,7 @@ fn begins<W: KnowsPlace>(worker: &W, draft: &PartDraft<W::Place>, bytes: &[u8]) 
 }
 
 impl<W: KnowsPlace> PieceDesk<W> {
-    /// Notes where a worker of its machine stands, behind a line.
+    /// Notes where a worker of its machine is, after a line.
     pub(crate) fn sample(&mut self, worker: &W)
         requires { W.machine worker.now ≡ W.machine self.old }
         ensures { self.new ≡ self.old }
@@ -109,12 +109,13 @@ impl<W: KnowsPlace> PieceDesk<W> {
         self.sampled = matches!(worker.note(&mut self.sample), Ok(true));
     }
 
-    /// Whether it knows where a worker stood behind a line.
+    /// Whether it knows where a worker was after a line.
     pub(crate) fn knows(&self) -> bool {
         self.sampled
     }
 
-    /// It is to work on a whole part of what is read behind so many bytes, or on some of one.
+    /// It is to work on a whole part of what is read next, or on some of one. The count says how
+    /// many bytes were read before.
     pub(crate) fn make_ready(&mut self, read: u64, whole: bool)
         ensures { self.new ≡ self.old }
     {
@@ -123,8 +124,8 @@ impl<W: KnowsPlace> PieceDesk<W> {
         self.drafted = false;
     }
 
-    /// A worker that has read so many bytes of a piece goes on to where the draft was begun, and
-    /// takes that over if it would make the same.
+    /// A worker that has read a piece up to a place goes on to where the draft was begun, and takes
+    /// that over if it would make the same.
     pub(crate) fn join(
         &mut self,
         worker: &mut W,

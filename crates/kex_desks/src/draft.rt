@@ -41,7 +41,8 @@ fn come_to<W: KnowsPlace>(
 }
 
 /// Makes a draft of a part, from where a worker is taken to come that begins the line before it
-/// at the sample. So many bytes were read before the piece. At false the draft is none.
+/// at the sample. The count says how many bytes were read before the piece. At false the draft is
+/// none.
 pub fn make_draft<W: KnowsPlace>(
     worker: &mut W,
     sample: &W::Place,

@@ -9,7 +9,7 @@ use std::alloc::Global;
 /// A worker whose place can be noted. Another one of its machine can begin there, and can be asked
 /// whether it stands there.
 ///
-/// What two workers of one machine do behind a place at which both stand is the same.
+/// What two workers of one machine do from a place on where both are is the same.
 pub trait KnowsPlace: Worker {
     /// Where a worker stands.
     type Place: Drop;
@@ -34,7 +34,7 @@ pub trait KnowsPlace: Worker {
         ensures place { fits self.now place.new }
         ensures noted { IfOk result (λ b. IsTrue b → stands_at self.now place.new) };
 
-    /// Begins at a place, as if so many bytes were read.
+    /// Begins at a place, as if that number of bytes were read.
     fn begin_at(&mut self, place: &Self::Place, read: u64) -> Result<(), Memory>
         requires { fits self.old place.now }
         ensures same { Self.machine self.new ≡ Self.machine self.old }
@@ -60,7 +60,7 @@ pub trait KnowsPlace: Worker {
         → stands_at b p → (Self.counted a ≡ Self.counted b)
         × ((w text : List ℕ) → Self.follows a w text → Self.follows b w text) };
 
-    /// What stands behind a byte that stops it changes nothing.
+    /// What comes after a byte that stops it changes nothing.
     ghost stopped: { (m : Self.Machine) (w v : List ℕ) (at : ℕ) (text : List ℕ)
         → Self.says m w (Some at) text → Self.says m (w ++ v) (Some at) text };
 }

@@ -39,8 +39,8 @@ impl Trust {
         }
     }
 
-    /// Whether desks are to work on the next piece, where it is known or not where a worker stood
-    /// behind a line: on the first one always.
+    /// Whether desks are to work on the next piece, where it is known or not where a worker was
+    /// after a line: on the first one always.
     pub fn tries(&mut self, known: bool) -> bool
         ensures { result ≡ (not self.old.begun || (known && self.old.resting == 0)) }
     {

@@ -10,7 +10,7 @@ returns-then-is_some-clause-reads g c =
     let w = g.W.Worker in
     let piece = c.args.piece.now in
     let front : List ℕ = take (c.max-lines.result - c.args.at) (drop c.args.at piece) in
-    let behind = drop (c.max-lines.result - c.args.at) (drop c.args.at piece) in
+    let back = drop (c.max-lines.result - c.args.at) (drop c.args.at piece) in
     let says = w.says (w.machine c.args.worker.now) in
     let F = w.follows c.args.worker.now in
     let G = w.follows c.go_on.new.self in
@@ -18,7 +18,7 @@ returns-then-is_some-clause-reads g c =
     let x = c.args.out.now.items in
     let y = c.go_on.new.out.items in
     subst (λ p. ReadsPiece says F G p stop x y) (take-append-drop (c.max-lines.result - c.args.at) (drop c.args.at piece))
-    (stops_in_front says F G front behind stop x y (g.met.W.KnowsPlace.stopped (w.machine c.args.worker.now)) (sym c.is_some.ensures ∙ c.if-is_some.true)
+    (stops_in_front says F G front back stop x y (g.met.W.KnowsPlace.stopped (w.machine c.args.worker.now)) (sym c.is_some.ensures ∙ c.if-is_some.true)
     (comes says F G front stop x y c.in_ok-stop.ensures.reads))
 
 pub returns-clause-reads : goal.returns-clause-reads
