@@ -10,6 +10,8 @@
 #![tactic(auto)]
 
 #[cfg(test)]
+mod chunk_stage;
+#[cfg(test)]
 mod chunks;
 #[cfg(test)]
 mod compile;
