@@ -14,7 +14,7 @@ pub record TablePlan : Type 0 where
   pub table : Transducer
   pub telling : Telling
 
--- what goes along the table, where the actor stands, and what is told
+-- what goes along the table, where the actor is, and by what it tells
 pub record TableState : Type 0 where
   pub follower : Follower
   pub actor : Position

@@ -31,7 +31,7 @@ fn taken<R: Threads + Sync>(
     Ok((first, stage.taken()))
 }
 
-// Of the first piece some lines of each part are worked on, of the second all but a line of the
+// Of the first piece some lines of each part are worked on, of the second all but two lines of the
 // first part.
 #[test]
 fn all_four_parts_are_taken_over(rt: HostRuntime) -> Result<(), Fail> {

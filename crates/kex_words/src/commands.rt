@@ -2,8 +2,8 @@
 ghost use Rattle.std.specs.Prelude.{◌≡◌, IfOk, option_map, false};
 ghost use Rattle.clap.specs.Words.{app_of, found_of, rows_of, subcommand_rows_of, with_subcommand};
 ghost use Rattle.clap.specs.declared.builder.command.Command.TheViews.{out-Command};
-ghost use Rattle.kex_words.specs.Words.{app_to_code, app_to_compile, app_to_test, bare_app, each_app};
-ghost use Rattle.kex_words.specs.Words.{exec_app, kex_app, program_app};
+ghost use Rattle.kex_words.specs.Words.{app_to_code, app_to_compile, app_to_test, bare_app};
+ghost use Rattle.kex_words.specs.Words.{each_app, exec_app, kex_app, program_app};
 ghost use Rattle.kex_words.specs.Words.{run_app, stage_app, trial_app};
 ghost use Rattle.kex_words.specs.Words.{asked_by_command, asked_in, mode_of, program_in, reach_in};
 ghost use Rattle.kex_words.specs.Words.{block_in, lines_in, max_input_in, rings_in, room_of};
