@@ -1,8 +1,9 @@
 //! A worker whose input is worked on in parts at once, by guess.
 //!
-//! Uses workers that know their place. Desks of such a worker's kind work parts of a piece in
-//! threads of their own, each from where it takes the worker to come to. The worker takes over what
-//! a desk has made where it comes to that very place, and reads the part itself where it doesn't.
+//! A *worker* reads what a stage is given, and knows its place. A *desk* has a second worker of the
+//! same kind. It works on one part of a piece in a thread of its own, from where it guesses that
+//! the worker will be there. Where the guess is right the worker takes over what the desk has made.
+//! Where it isn't, the worker reads the part itself.
 #![tactic(auto)]
 
 pub mod chunk_worker;
