@@ -1,3 +1,4 @@
+pub mod PartShares
 pub mod MovedLists
 pub mod Alongs
 pub mod Sums

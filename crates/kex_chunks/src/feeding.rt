@@ -1,6 +1,7 @@
 // A runner is fed a piece by the summaries of its parts.
 
-ghost use Rattle.std.specs.Prelude.{◌≡◌, ◌+◌, ◌<◌, ◌≤◌, ◌^◌, [], IfOk, OnOk, IsTrue, IsOk};
+ghost use Rattle.std.specs.Prelude.{◌≡◌, ◌+◌, ◌-◌, ◌*◌, ◌/◌, ◌%◌, ◌<◌, ◌≤◌, ◌^◌, [], IfOk, OnOk};
+ghost use Rattle.std.specs.Prelude.{IsTrue, IsOk, min};
 ghost use Rattle.std.specs.Prelude.{Some, ◌∷◌, ◌↔◌, true, false, length};
 ghost use Rattle.std.specs.Thread.{IsSync};
 ghost use Rattle.kex_sst.specs.Summaries.{sum_of};
@@ -61,16 +62,16 @@ impl<'s, G: Gate> SumTask<'s, G> {
     }
 }
 
-// The bytes of the first parts: any two parts differ by one byte at most.
+// The bytes of the first parts: any two parts differ by one byte at most, and none is empty.
 fn share_of(bytes: usize, parts: usize, first: usize) -> usize
-    requires { 0 < parts }
-    ensures { result ≤ bytes }
+    requires { (0 < parts) × (parts ≤ bytes) × (first ≤ parts) }
+    ensures some { (first ≤ result) × (result + (parts - first) ≤ bytes) }
+    ensures even { result ≡ bytes / parts * first + min (bytes % parts) first }
 {
-    let share = (bytes / parts).saturating_mul(first);
-    share.saturating_add((bytes % parts).min(first)).min(bytes)
+    bytes / parts * first + (bytes % parts).min(first)
 }
 
-// The summaries of the parts of a piece, as many as there are slots.
+// The summaries of the parts of a piece, as many as there are slots, of which none is empty.
 fn work_all<R: Threads + Sync, G: Gate + Sync>(
     rt: &R,
     task: &SumTask<'_, G>,
@@ -78,6 +79,7 @@ fn work_all<R: Threads + Sync, G: Gate + Sync>(
     slots: &mut [Option<Summary>],
 ) -> Result<(), Memory>
     requires some { 0 < length slots.old }
+    requires enough { length slots.old ≤ length piece.now }
     requires few { task.now.first + length slots.old ≤ 2 ^ 32 }
     ensures { OnOk result (AreSummaries task.now.table.now piece.now slots.new) }
 {
@@ -96,13 +98,13 @@ fn work_all<R: Threads + Sync, G: Gate + Sync>(
     let (one, other) = join_mut(
         rt,
         &mut || -> Result<(), Memory>
-            requires { IsSync R.row × (0 < length front.now)
+            requires { IsSync R.row × (0 < length front.now) × (length front.now ≤ length here.now)
                 × (task.now.first + length front.now ≤ 2 ^ 32) }
             ensures { OnOk result
                 (AreSummaries task.entry.now.table.now here.entry.now front.exit.now) }
         { work_all(rt, task, here, front) },
         &mut || -> Result<(), Memory>
-            requires { IsSync R.row × (0 < length back.now)
+            requires { IsSync R.row × (0 < length back.now) × (length back.now ≤ length there.now)
                 × (next.now.first + length back.now ≤ 2 ^ 32) }
             ensures { OnOk result
                 (AreSummaries next.entry.now.table.now there.entry.now back.exit.now) }
@@ -120,6 +122,7 @@ fn summaries_of<R: Threads + Sync, G: Gate + Sync>(
     parts: usize,
 ) -> Result<Vec<Option<Summary>>, Memory>
     requires some { 0 < parts }
+    requires enough { parts ≤ length piece.now }
     requires few { task.now.first + parts ≤ 2 ^ 32 }
     ensures { IfOk result (λ all. AreSummaries task.now.table.now piece.now all.items) }
 {
