@@ -8,7 +8,7 @@ use crate::item::{HeldItem, RegisterText};
 use crate::keep::{points_to_keep, renumber_texts};
 use crate::list::{list_of, texts_of};
 use crate::row::{LearntEdge, TextRow};
-use crate::track::{track, track_edges};
+use crate::track::{ListTracker, track};
 use crate::upper::byte_of;
 use kex_code::memory::Memory;
 use kex_machine::Trimmed;
@@ -83,16 +83,14 @@ pub fn learn_edge(
     let Some(out) = track(alloc, machine, texts, row.node(), update.out().as_slice())? else {
         return Ok(None);
     };
-    let tracked = track_edges(
+    let tracker = ListTracker {
         alloc,
         table,
         machine,
         texts,
-        target,
-        out.to(),
-        byte_of(table.partition(), class),
-        update.regs(),
-    )?;
+        byte: byte_of(table.partition(), class),
+    };
+    let tracked = tracker.track_edges(target, out.to(), update.regs())?;
     let Some(tracked) = tracked else {
         return Ok(None);
     };

@@ -205,72 +205,76 @@ fn track_from_any(
     Ok(None)
 }
 
-// The nodes from which the list of parts of a register may be tracked, the likeliest first.
-fn starts_of(
-    alloc: Global,
-    table: &Table,
-    machine: &Trimmed,
-    texts: &[RegisterText],
-    known: &[Tracked],
-    forks: &[u32],
-    parts: &[Part],
-    byte: u8,
-    place: Place,
-) -> Result<Vec<u32>, Memory> {
-    let mut able = able_nodes(alloc, machine, texts, forks, parts, byte)?;
-    let start = match start_of(texts, parts) {
-        Some(start) => Some(start),
-        None if able.len() == 1 => None,
-        None => upper_end(alloc, table, machine, known, place)?,
-    };
-    if let Some(start) = start {
-        able.insert(0, start)?;
-    }
-    Ok(able)
+/// What lists are made of: what the registers of a row hold, where a byte is read.
+#[derive(Clone, Copy)]
+pub struct ListTracker<'t> {
+    pub alloc: Global,
+    pub table: &'t Table,
+    pub machine: &'t Trimmed,
+    pub texts: &'t [RegisterText],
+    pub byte: u8,
 }
 
-/// The lists of parts of new registers of a state, each from the upper end of its edge of the path
-/// tree. `None` says nothing.
-///
-/// A list that goes on with an old register begins where that begins. Another upper end is a node
-/// with a choice, to which the root or a lower end leads without a byte, and from which the list
-/// can be taken where the byte is read. Where there are several, what comes later says which it is.
-/// Nothing rests on that: what is tracked is right from whichever node.
-pub fn track_edges(
-    alloc: Global,
-    table: &Table,
-    machine: &Trimmed,
-    texts: &[RegisterText],
-    state: u32,
-    root: u32,
-    byte: u8,
-    lists: &[Parts],
-) -> Result<Option<Vec<Tracked>>, Memory>
-    ensures { IfOk result (λ o.
-        IfSome o (λ ps. AreTrackedAny machine.now.nodes texts.now lists.now ps.items)) }
-{
-    let mut forks = Vec::new(alloc);
-    put_forks(alloc, machine, root, &mut forks)?;
-    let mut all = Vec::new(alloc);
-    'lists: for parts in lists {
-        let Ok(register) = u32::try_from(all.len()) else {
-            return Ok(None);
+impl<'t> ListTracker<'t> {
+    // The nodes from which the list of parts of a register may be tracked, the likeliest first.
+    fn starts_of(
+        &self,
+        known: &[Tracked],
+        forks: &[u32],
+        parts: &[Part],
+        place: Place,
+    ) -> Result<Vec<u32>, Memory> {
+        let machine = self.machine;
+        let mut able = able_nodes(self.alloc, machine, self.texts, forks, parts, self.byte)?;
+        let start = match start_of(self.texts, parts) {
+            Some(start) => Some(start),
+            None if able.len() == 1 => None,
+            None => upper_end(self.alloc, self.table, machine, known, place)?,
         };
-        let place = Place {
-            state,
-            root,
-            register,
-        };
-        let list = parts.as_slice();
-        let starts = starts_of(
-            alloc, table, machine, texts, &all, &forks, list, byte, place,
-        )?;
-        let tracked = track_from_any(alloc, machine, texts, &starts, list)?;
-        let Some(tracked) = tracked else {
-            return Ok(None);
-        };
-        put_forks(alloc, machine, tracked.to(), &mut forks)?;
-        all.push(tracked)?;
+        if let Some(start) = start {
+            able.insert(0, start)?;
+        }
+        Ok(able)
     }
-    Ok(Some(all))
+
+    /// The lists of parts of new registers of a state, each from the upper end of its edge of the
+    /// path tree. `None` says nothing.
+    ///
+    /// A list that goes on with an old register begins where that begins. Another upper end is a
+    /// node with a choice, to which the root or a lower end leads without a byte, and from which
+    /// the list can be taken where the byte is read. Where there are several, what comes later says
+    /// which it is. Nothing rests on that: what is tracked is right from whichever node.
+    pub fn track_edges(
+        &self,
+        state: u32,
+        root: u32,
+        lists: &[Parts],
+    ) -> Result<Option<Vec<Tracked>>, Memory>
+        ensures { IfOk result (λ o. IfSome o (λ ps.
+            AreTrackedAny self.now.machine.now.nodes self.now.texts.now lists.now ps.items)) }
+    {
+        let alloc = self.alloc;
+        let machine = self.machine;
+        let mut forks = Vec::new(alloc);
+        put_forks(alloc, machine, root, &mut forks)?;
+        let mut all = Vec::new(alloc);
+        'lists: for parts in lists {
+            let Ok(register) = u32::try_from(all.len()) else {
+                return Ok(None);
+            };
+            let place = Place {
+                state,
+                root,
+                register,
+            };
+            let list = parts.as_slice();
+            let starts = self.starts_of(&all, &forks, list, place)?;
+            let Some(tracked) = track_from_any(alloc, machine, self.texts, &starts, list)? else {
+                return Ok(None);
+            };
+            put_forks(alloc, machine, tracked.to(), &mut forks)?;
+            all.push(tracked)?;
+        }
+        Ok(Some(all))
+    }
 }

@@ -4,12 +4,12 @@ use Rattle.std.proofs.lemmas.List.{take_more}
 use Rattle.kex_held.specs.Tracks.{TracksAny}
 use Rattle.kex_held.specs.LearntEdges.{AreTrackedAny}
 use Rattle.kex_held.proofs.EdgeLists.{tracked_push}
-use Rattle.kex_held.proofs.track.track_edges.Goals as goal
+use Rattle.kex_held.proofs.track.ListTracker.track_edges.Goals as goal
 
 pub lists-preserved : goal.lists-preserved
 lists-preserved c =
-    let nodes = c.args.machine.now.nodes in
-    let texts = c.args.texts.now in
+    let nodes = c.args.self.now.machine.now.nodes in
+    let texts = c.args.self.now.texts.now in
     let lists = c.args.lists.now in
     let i = c.lists.parts-index in
     let parts = c.parts-item.result in
