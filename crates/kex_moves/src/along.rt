@@ -37,6 +37,22 @@ const MOST: usize = 16_384;
 /// Room for these, and for what is written for a part: 17 bytes for each of its bytes, and 17 more.
 pub const ROOM: usize = 86_033;
 
+/// What edges are learnt of: a table, and the machine of its stage.
+#[derive(Clone, Copy)]
+pub struct Primer<'p> {
+    pub alloc: Global,
+    pub table: &'p Table,
+    pub machine: &'p Trimmed,
+}
+
+/// What is learnt of a table and a machine, and the sheet on which a run writes.
+#[derive(Drop)]
+pub struct Logbook<'p> {
+    pub edges: Edges,
+    pub leaps: Leaps<'p>,
+    pub sheet: Sheet,
+}
+
 /// How many bytes a run took, and the state to which they lead.
 #[derive(Clone, Copy, Debug, PartialEq, Eq)]
 pub struct Ran {
@@ -386,79 +402,84 @@ pub fn part_of<T>(piece: &[T]) -> &[T]
 
 // Learns the edge of the first byte of a piece. Where there is none, goes along a leap.
 fn go_past(
-    alloc: Global,
-    table: &Table,
-    machine: &Trimmed,
-    edges: &mut Edges,
-    leaps: &mut Leaps,
-    sheet: &mut Sheet,
+    primer: &Primer,
+    book: &mut Logbook,
     row: usize,
     actor: &mut Actor,
     piece: &[u8],
     out: &mut Vec<u8>,
 ) -> Result<RowStride, Memory>
     requires usable { IsTrue actor.old.usable }
-    requires machine { actor.old.machine ≡ machine.now }
-    requires rows { (leaps.old.table ≡ table.now) × (leaps.old.machine ≡ machine.now) }
-    requires known { IsKnown table.now machine.now edges.old }
-    requires row { (p : Pair) × IsPairRow edges.old row p }
+    requires machine { actor.old.machine ≡ primer.now.machine.now }
+    requires rows { (book.old.leaps.table ≡ primer.now.table.now)
+        × (book.old.leaps.machine ≡ primer.now.machine.now) }
+    requires known { IsKnown primer.now.table.now primer.now.machine.now book.old.edges }
+    requires row { (p : Pair) × IsPairRow book.old.edges row p }
     requires some { 0 < length piece.now }
-    requires sheet { IsSheet sheet.old }
-    requires room { length sheet.old.bytes.items ≡ ROOM }
-    ensures known { IfOk result (λ s. IsKnown table.now machine.now edges.new) }
+    requires sheet { IsSheet book.old.sheet }
+    requires room { length book.old.sheet.bytes.items ≡ ROOM }
+    ensures known { IfOk result (λ s. IsKnown primer.now.table.now primer.now.machine.now
+        book.new.edges) }
     ensures within { IfOk result (λ s. s.count ≤ length piece.now) }
-    ensures reached { IfOk result (λ s. ReachedOn table.now edges.old edges.new actor.old actor.new
-        sheet.old sheet.new row s.row (take s.count piece.now) out.old.items out.new.items) }
-    ensures sheet { OnOk result (IsSheet sheet.new × IsAsLong sheet.old sheet.new) }
-    ensures rows { (leaps.new.table ≡ leaps.old.table)
-        × (leaps.new.machine ≡ leaps.old.machine) }
+    ensures reached { IfOk result (λ s. ReachedOn primer.now.table.now book.old.edges
+        book.new.edges actor.old actor.new book.old.sheet book.new.sheet row s.row
+        (take s.count piece.now) out.old.items out.new.items) }
+    ensures sheet { OnOk result (IsSheet book.new.sheet × IsAsLong book.old.sheet book.new.sheet) }
+    ensures rows { (book.new.leaps.table ≡ book.old.leaps.table)
+        × (book.new.leaps.machine ≡ book.old.leaps.machine) }
     ensures machine { actor.new.machine ≡ actor.old.machine }
     ensures usable { OnOk result (IsTrue actor.new.usable) }
 {
-    if !learn_at(alloc, table, machine, edges, row, piece[0])? {
+    if !learn_at(
+        primer.alloc,
+        primer.table,
+        primer.machine,
+        &mut book.edges,
+        row,
+        piece[0],
+    )? {
         return Ok(RowStride {
             count: 0,
             row,
             stops: false,
         });
     }
-    let gone = leap_at(leaps, edges, row, actor, sheet, piece, out)?;
+    let gone = leap_at(book, row, actor, piece, out)?;
     Ok(gone)
 }
 
 // Goes on from a row over a part of a piece, and past the byte after it.
 fn go_on(
-    alloc: Global,
-    table: &Table,
-    machine: &Trimmed,
-    edges: &mut Edges,
-    leaps: &mut Leaps,
-    sheet: &mut Sheet,
+    primer: &Primer,
+    book: &mut Logbook,
     row: usize,
     actor: &mut Actor,
     piece: &[u8],
     out: &mut Vec<u8>,
 ) -> Result<RowStride, Memory>
     requires usable { IsTrue actor.old.usable }
-    requires machine { actor.old.machine ≡ machine.now }
-    requires rows { (leaps.old.table ≡ table.now) × (leaps.old.machine ≡ machine.now) }
-    requires known { IsKnown table.now machine.now edges.old }
-    requires row { (q : ℕ) × (n : ℕ) × HasRowFor edges.old row q n }
-    requires sheet { IsSheet sheet.old }
-    requires room { length sheet.old.bytes.items ≡ ROOM }
-    ensures known { IfOk result (λ s. IsKnown table.now machine.now edges.new) }
+    requires machine { actor.old.machine ≡ primer.now.machine.now }
+    requires rows { (book.old.leaps.table ≡ primer.now.table.now)
+        × (book.old.leaps.machine ≡ primer.now.machine.now) }
+    requires known { IsKnown primer.now.table.now primer.now.machine.now book.old.edges }
+    requires row { (q : ℕ) × (n : ℕ) × HasRowFor book.old.edges row q n }
+    requires sheet { IsSheet book.old.sheet }
+    requires room { length book.old.sheet.bytes.items ≡ ROOM }
+    ensures known { IfOk result (λ s. IsKnown primer.now.table.now primer.now.machine.now
+        book.new.edges) }
     ensures within { IfOk result (λ s. s.count ≤ length piece.now) }
-    ensures reached { IfOk result (λ s. ReachedOn table.now edges.old edges.new actor.old actor.new
-        sheet.old sheet.new row s.row (take s.count piece.now) out.old.items out.new.items) }
-    ensures sheet { OnOk result (IsSheet sheet.new × IsAsLong sheet.old sheet.new) }
-    ensures rows { (leaps.new.table ≡ leaps.old.table)
-        × (leaps.new.machine ≡ leaps.old.machine) }
+    ensures reached { IfOk result (λ s. ReachedOn primer.now.table.now book.old.edges
+        book.new.edges actor.old actor.new book.old.sheet book.new.sheet row s.row
+        (take s.count piece.now) out.old.items out.new.items) }
+    ensures sheet { OnOk result (IsSheet book.new.sheet × IsAsLong book.old.sheet book.new.sheet) }
+    ensures rows { (book.new.leaps.table ≡ book.old.leaps.table)
+        × (book.new.leaps.machine ≡ book.old.leaps.machine) }
     ensures machine { actor.new.machine ≡ actor.old.machine }
     ensures usable { OnOk result (IsTrue actor.new.usable) }
 {
-    make_room(edges, row, actor, sheet, out)?;
+    make_room(&book.edges, row, actor, &mut book.sheet, out)?;
     let part = part_of(piece);
-    let place = along_acting(edges, row, part, actor, sheet, out)?;
+    let place = along_acting(&book.edges, row, part, actor, &mut book.sheet, out)?;
     let count = place.count;
     let row = place.row;
     if count == piece.len() {
@@ -469,9 +490,7 @@ fn go_on(
         });
     }
     let rest = &piece[count..];
-    let past = go_past(
-        alloc, table, machine, edges, leaps, sheet, row, actor, rest, out,
-    )?;
+    let past = go_past(primer, book, row, actor, rest, out)?;
     Ok(RowStride {
         count: count + past.count,
         row: past.row,
@@ -498,33 +517,31 @@ pub fn rounds_left(stops: bool, rounds: usize) -> usize
 
 // Goes on from a row as far as edges go, and learns those that are met first.
 fn run_from(
-    alloc: Global,
-    table: &Table,
-    machine: &Trimmed,
-    edges: &mut Edges,
-    leaps: &mut Leaps,
-    sheet: &mut Sheet,
+    primer: &Primer,
+    book: &mut Logbook,
     from: usize,
     actor: &mut Actor,
     piece: &[u8],
     out: &mut Vec<u8>,
 ) -> Result<Ran, Memory>
     requires usable { IsTrue actor.old.usable }
-    requires machine { actor.old.machine ≡ machine.now }
-    requires rows { (leaps.old.table ≡ table.now) × (leaps.old.machine ≡ machine.now) }
-    requires known { IsKnown table.now machine.now edges.old }
-    requires row { (q : ℕ) × HasRowFor edges.old from q actor.old.at }
-    requires room { length sheet.old.bytes.items ≡ ROOM }
-    requires none { IsBlank sheet.old }
-    ensures known { IfOk result (λ ran. IsKnown table.now machine.now edges.new) }
+    requires machine { actor.old.machine ≡ primer.now.machine.now }
+    requires rows { (book.old.leaps.table ≡ primer.now.table.now)
+        × (book.old.leaps.machine ≡ primer.now.machine.now) }
+    requires known { IsKnown primer.now.table.now primer.now.machine.now book.old.edges }
+    requires row { (q : ℕ) × HasRowFor book.old.edges from q actor.old.at }
+    requires room { length book.old.sheet.bytes.items ≡ ROOM }
+    requires none { IsBlank book.old.sheet }
+    ensures known { IfOk result (λ ran. IsKnown primer.now.table.now primer.now.machine.now
+        book.new.edges) }
     ensures within { IfOk result (λ ran. ran.count ≤ length piece.now) }
-    ensures goes { IfOk result (λ ran. (q : ℕ) → HasRowFor edges.old from q actor.old.at
-        → GoesAlong table.now actor.old actor.new q ran.state
+    ensures goes { IfOk result (λ ran. (q : ℕ) → HasRowFor book.old.edges from q actor.old.at
+        → GoesAlong primer.now.table.now actor.old actor.new q ran.state
         (take ran.count piece.now) out.old.items out.new.items) }
-    ensures none { OnOk result (IsBlank sheet.new) }
-    ensures room { OnOk result (IsAsLong sheet.old sheet.new) }
-    ensures rows { (leaps.new.table ≡ leaps.old.table)
-        × (leaps.new.machine ≡ leaps.old.machine) }
+    ensures none { OnOk result (IsBlank book.new.sheet) }
+    ensures room { OnOk result (IsAsLong book.old.sheet book.new.sheet) }
+    ensures rows { (book.new.leaps.table ≡ book.old.leaps.table)
+        × (book.new.leaps.machine ≡ book.old.leaps.machine) }
     ensures machine { actor.new.machine ≡ actor.old.machine }
     ensures usable { OnOk result (IsTrue actor.new.usable) }
 {
@@ -533,57 +550,52 @@ fn run_from(
     let mut left = piece.len();
     'rounds: while left > 0 {
         let rest = &piece[at..];
-        let gone = go_on(
-            alloc, table, machine, edges, leaps, sheet, row, actor, rest, out,
-        )?;
+        let gone = go_on(primer, book, row, actor, rest, out)?;
         at += gone.count;
         row = gone.row;
         left = rounds_left(gone.stops, left);
     }
-    let state = arrive(edges, row, actor, sheet, out)?;
+    let state = arrive(&book.edges, row, actor, &mut book.sheet, out)?;
     Ok(Ran { count: at, state })
 }
 
 /// Goes on from a state, as far as edges go. Nothing is taken where the actor doesn't rest, or
 /// where there is no room for the row.
 pub fn run_at(
-    alloc: Global,
-    table: &Table,
-    machine: &Trimmed,
-    edges: &mut Edges,
-    leaps: &mut Leaps,
-    sheet: &mut Sheet,
+    primer: &Primer,
+    book: &mut Logbook,
     state: u32,
     actor: &mut Actor,
     piece: &[u8],
     out: &mut Vec<u8>,
 ) -> Result<Ran, Memory>
     requires usable { IsTrue actor.old.usable }
-    requires machine { actor.old.machine ≡ machine.now }
-    requires rows { (leaps.old.table ≡ table.now) × (leaps.old.machine ≡ machine.now) }
-    requires known { IsKnown table.now machine.now edges.old }
-    requires room { length sheet.old.bytes.items ≡ ROOM }
-    requires none { IsBlank sheet.old }
-    ensures known { IfOk result (λ ran. IsKnown table.now machine.now edges.new) }
+    requires machine { actor.old.machine ≡ primer.now.machine.now }
+    requires rows { (book.old.leaps.table ≡ primer.now.table.now)
+        × (book.old.leaps.machine ≡ primer.now.machine.now) }
+    requires known { IsKnown primer.now.table.now primer.now.machine.now book.old.edges }
+    requires room { length book.old.sheet.bytes.items ≡ ROOM }
+    requires none { IsBlank book.old.sheet }
+    ensures known { IfOk result (λ ran. IsKnown primer.now.table.now primer.now.machine.now
+        book.new.edges) }
     ensures within { IfOk result (λ ran. ran.count ≤ length piece.now) }
-    ensures goes { IfOk result (λ ran. GoesAlong table.now actor.old actor.new state ran.state
-        (take ran.count piece.now) out.old.items out.new.items) }
-    ensures bare { IfOk result (λ ran. IsBareState table.now state
-        → IsBareState table.now ran.state) }
-    ensures none { OnOk result (IsBlank sheet.new) }
-    ensures room { OnOk result (IsAsLong sheet.old sheet.new) }
-    ensures rows { (leaps.new.table ≡ leaps.old.table)
-        × (leaps.new.machine ≡ leaps.old.machine) }
+    ensures goes { IfOk result (λ ran. GoesAlong primer.now.table.now actor.old actor.new state
+        ran.state (take ran.count piece.now) out.old.items out.new.items) }
+    ensures bare { IfOk result (λ ran. IsBareState primer.now.table.now state
+        → IsBareState primer.now.table.now ran.state) }
+    ensures none { OnOk result (IsBlank book.new.sheet) }
+    ensures room { OnOk result (IsAsLong book.old.sheet book.new.sheet) }
+    ensures rows { (book.new.leaps.table ≡ book.old.leaps.table)
+        × (book.new.leaps.machine ≡ book.old.leaps.machine) }
     ensures machine { actor.new.machine ≡ actor.old.machine }
     ensures usable { OnOk result (IsTrue actor.new.usable) }
 {
-    let Some(row) = row_for(machine, edges, table.states().len(), state, actor.node())? else {
+    let states = primer.table.states().len();
+    let Some(row) = row_for(primer.machine, &mut book.edges, states, state, actor.node())? else {
         return Ok(Ran { count: 0, state });
     };
     if piece.is_empty() {
         return Ok(Ran { count: 0, state });
     }
-    run_from(
-        alloc, table, machine, edges, leaps, sheet, row, actor, piece, out,
-    )
+    run_from(primer, book, row, actor, piece, out)
 }

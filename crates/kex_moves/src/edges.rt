@@ -16,7 +16,7 @@ ghost use Rattle.kex_moves.specs.Known.{Settles, Widens, Lengthens, Forgets};
 
 use crate::edge::{Edge, EdgeKind};
 use crate::follow::follow;
-use crate::run::{Halt, SheetPoint, run};
+use crate::run::{Halt, SheetPoint, SheetStart, run};
 use kex_action::action::Action;
 use kex_code::memory::Memory;
 use kex_script::piece::ByteWord;
@@ -492,8 +492,7 @@ impl Edges {
             &self.text,
             pieces,
             buffer,
-            row,
-            used,
+            SheetStart { row, used },
         )
     }
 

@@ -10,7 +10,7 @@ ghost use Rattle.kex_moves.specs.Trails.{EdgesLeadBelow, IsWrittenEdge, IsTrail,
 
 use crate::edge::Edge;
 use crate::put::put;
-use crate::run::SheetPoint;
+use crate::run::{SheetPoint, SheetStart};
 use kex_script::piece::ByteWord;
 
 // Writes an edge that leads back to its own row again for each piece with the word of the one
@@ -59,23 +59,22 @@ pub fn follow(
     text: &[u8],
     pieces: &[ByteWord],
     buffer: &mut [u8],
-    row: usize,
-    used: usize,
+    from: SheetStart,
 ) -> SheetPoint
     requires next { EdgesLeadBelow width edges.now }
     requires text { HasRoomBelow (length text.now) edges.now }
-    requires row { row + width ≤ length edges.now }
-    requires room { used + 17 * length pieces.now + 17 ≤ length buffer.old }
+    requires row { from.row + width ≤ length edges.now }
+    requires room { from.used + 17 * length pieces.now + 17 ≤ length buffer.old }
     ensures at { result.at ≤ length pieces.now }
     ensures used { result.used ≤ length buffer.new }
     ensures trail { IsTrail edges.now text.now width (take result.at pieces.now)
-        (record { row = row; writes = take used buffer.old })
+        (record { row = from.row; writes = take from.used buffer.old })
         (record { row = result.row; writes = take result.used buffer.new }) }
     ensures stops { IsTrailOver edges.now width result.row (drop result.at pieces.now) }
 {
     let mut at = 0;
-    let mut row = row;
-    let mut used = used;
+    let mut row = from.row;
+    let mut used = from.used;
     while at < pieces.len() {
         let piece = pieces[at];
         if piece.word as usize >= width {

@@ -7,12 +7,9 @@ ghost use Rattle.kex_moves.specs.declared.edges.Pair.{Pair};
 ghost use Rattle.kex_moves.specs.Known.{IsPairRow, IsKnown};
 ghost use Rattle.kex_moves.specs.Along.{ReachedOn};
 
-use crate::along::RowStride;
-use crate::edges::Edges;
+use crate::along::{Logbook, RowStride};
 use kex_action::actor::Actor;
-use kex_action::sheet::Sheet;
 use kex_code::memory::Memory;
-use kex_leaps::leaps::Leaps;
 
 /// How many bytes of a piece are looked at for a leap. What they write has room on a sheet.
 const LONGEST: usize = 65_536;
@@ -31,29 +28,27 @@ fn front_of(piece: &[u8]) -> &[u8]
 
 /// Goes along a leap of a piece from a row, if it can be gone along and ends in the piece.
 pub fn leap_at(
-    leaps: &mut Leaps,
-    edges: &mut Edges,
+    book: &mut Logbook,
     row: usize,
     actor: &mut Actor,
-    sheet: &mut Sheet,
     piece: &[u8],
     out: &mut Vec<u8>,
 ) -> Result<RowStride, Memory>
     requires usable { IsTrue actor.old.usable }
-    requires machine { actor.old.machine ≡ leaps.old.machine }
-    requires known { IsKnown leaps.old.table leaps.old.machine edges.old }
-    requires row { (p : Pair) × IsPairRow edges.old row p }
-    requires sheet { IsSheet sheet.old }
-    requires room { length sheet.old.bytes.items ≡ ROOM }
+    requires machine { actor.old.machine ≡ book.old.leaps.machine }
+    requires known { IsKnown book.old.leaps.table book.old.leaps.machine book.old.edges }
+    requires row { (p : Pair) × IsPairRow book.old.edges row p }
+    requires sheet { IsSheet book.old.sheet }
+    requires room { length book.old.sheet.bytes.items ≡ ROOM }
     ensures known { IfOk result (λ s.
-        IsKnown leaps.old.table leaps.old.machine edges.new) }
+        IsKnown book.old.leaps.table book.old.leaps.machine book.new.edges) }
     ensures within { IfOk result (λ s. s.count ≤ length piece.now) }
-    ensures reached { IfOk result (λ s. ReachedOn leaps.old.table edges.old edges.new actor.old
-        actor.new sheet.old sheet.new row s.row (take s.count piece.now) out.old.items
-        out.new.items) }
-    ensures sheet { OnOk result (IsSheet sheet.new × IsAsLong sheet.old sheet.new) }
-    ensures same { leaps.new.table ≡ leaps.old.table }
-    ensures rows { leaps.new.machine ≡ leaps.old.machine }
+    ensures reached { IfOk result (λ s. ReachedOn book.old.leaps.table book.old.edges
+        book.new.edges actor.old actor.new book.old.sheet book.new.sheet row s.row
+        (take s.count piece.now) out.old.items out.new.items) }
+    ensures sheet { OnOk result (IsSheet book.new.sheet × IsAsLong book.old.sheet book.new.sheet) }
+    ensures same { book.new.leaps.table ≡ book.old.leaps.table }
+    ensures rows { book.new.leaps.machine ≡ book.old.leaps.machine }
     ensures machine { actor.new.machine ≡ actor.old.machine }
     ensures usable { OnOk result (IsTrue actor.new.usable) }
 {
@@ -63,14 +58,15 @@ pub fn leap_at(
         stops: true,
     };
     let front = front_of(piece);
-    let pair = edges.pair_at(row);
-    let Some(leap) = leaps.scan(pair.state, pair.node, front)? else {
+    let pair = book.edges.pair_at(row);
+    let Some(leap) = book.leaps.scan(pair.state, pair.node, front)? else {
         return Ok(none);
     };
-    let Some(next) = edges.row_of(leap.state, leap.node)? else {
+    let Some(next) = book.edges.row_of(leap.state, leap.node)? else {
         return Ok(none);
     };
-    leaps.perform(leap.node, front, actor, sheet, out)?;
+    book.leaps
+        .perform(leap.node, front, actor, &mut book.sheet, out)?;
     Ok(RowStride {
         count: leap.count,
         row: next,

@@ -4,7 +4,7 @@ ghost use Rattle.std.specs.Prelude.{◌≡◌, ◌≤◌, ◌^◌, IsTrue, IfOk,
 ghost use Rattle.kex_moves.specs.Along.{RunsOn, IsBareState};
 
 pub use crate::along::Ran;
-use crate::along::{ROOM, run_at};
+use crate::along::{Logbook, Primer, ROOM, run_at};
 use crate::edges::{By, Edges};
 use kex_action::actor::Actor;
 use kex_action::sheet::Sheet;
@@ -22,12 +22,8 @@ use std::marker::Model;
 /// Once a call has answered `Memory` the actor may only be dropped, and no later call takes a byte.
 #[derive(Drop)]
 pub struct Moves<'p> {
-    alloc: Global,
-    table: &'p Table,
-    machine: &'p Trimmed,
-    edges: Edges,
-    leaps: Leaps<'p>,
-    sheet: Sheet,
+    primer: Primer<'p>,
+    book: Logbook<'p>,
     usable: bool,
 }
 
@@ -40,12 +36,12 @@ impl<'p> Model for Moves<'p> {
 
     ghost Value = { Over };
 
-    ghost view = { λ m. record { table = m.table.now; machine = m.machine.now } };
+    ghost view = { λ m. record { table = m.primer.table.now; machine = m.primer.machine.now } };
 
-    ghost invariant = { λ m. (m.leaps.table ≡ m.table.now)
-        × (m.leaps.machine ≡ m.machine.now) × (IsTrue m.usable
-        → IsKnown m.table.now m.machine.now m.edges × IsBlank m.sheet
-        × (length m.sheet.bytes.items ≡ ROOM)) };
+    ghost invariant = { λ m. (m.book.leaps.table ≡ m.primer.table.now)
+        × (m.book.leaps.machine ≡ m.primer.machine.now) × (IsTrue m.usable
+        → IsKnown m.primer.table.now m.primer.machine.now m.book.edges × IsBlank m.book.sheet
+        × (length m.book.sheet.bytes.items ≡ ROOM)) };
 }
 
 // The classes of all bytes.
@@ -84,12 +80,16 @@ impl<'p> Moves<'p> {
         let leaps = Leaps::new(alloc, table, machine)?;
         let sheet = Sheet::new(alloc, ROOM)?;
         Ok(Moves {
-            alloc,
-            table,
-            machine,
-            edges,
-            leaps,
-            sheet,
+            primer: Primer {
+                alloc,
+                table,
+                machine,
+            },
+            book: Logbook {
+                edges,
+                leaps,
+                sheet,
+            },
             usable: true,
         })
     }
@@ -118,18 +118,7 @@ impl<'p> Moves<'p> {
             return Ok(Ran { count: 0, state });
         }
         self.usable = false;
-        let ran = run_at(
-            self.alloc,
-            self.table,
-            self.machine,
-            &mut self.edges,
-            &mut self.leaps,
-            &mut self.sheet,
-            state,
-            actor,
-            piece,
-            out,
-        )?;
+        let ran = run_at(&self.primer, &mut self.book, state, actor, piece, out)?;
         self.usable = true;
         Ok(ran)
     }

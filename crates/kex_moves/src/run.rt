@@ -17,6 +17,13 @@ pub struct SheetPoint {
     pub used: usize,
 }
 
+/// Where a run begins: at a row, after what is used of a buffer.
+#[derive(Clone, Copy)]
+pub struct SheetStart {
+    pub row: usize,
+    pub used: usize,
+}
+
 /// How many bytes of a run are copied at once. For that many it is asked once if they are there.
 const EIGHT: usize = 8;
 

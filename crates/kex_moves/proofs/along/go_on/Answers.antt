@@ -10,25 +10,25 @@ use Rattle.kex_moves.proofs.along.go_on.Goals as goal
 pub make_room-requires-clause-row : goal.make_room-requires-clause-row
 make_room-requires-clause-row c =
     let h = c.requires.row.2 in
-    (h.0, h.1, subst (λ m. h.0.node < length m.nodes) (sym c.requires.machine) (pair_known c.args.table.now c.args.machine.now c.args.edges.now c.args.row h.0 h.0 c.requires.known h.1 refl).node)
+    (h.0, h.1, subst (λ m. h.0.node < length m.nodes) (sym c.requires.machine) (pair_known c.args.primer.now.table.now c.args.primer.now.machine.now c.args.book.now.edges c.args.row h.0 h.0 c.requires.known h.1 refl).node)
 
 pub along_acting-requires-clause-known : goal.along_acting-requires-clause-known
-along_acting-requires-clause-known c = (c.args.table.now, subst (λ m. IsKnown c.args.table.now m c.args.edges.now) (sym ((c.in_ok-make_room.ensures {u = tt}).machine ∙ c.requires.machine)) c.requires.known)
+along_acting-requires-clause-known c = (c.args.primer.now.table.now, subst (λ m. IsKnown c.args.primer.now.table.now m c.args.book.now.edges) (sym ((c.in_ok-make_room.ensures {u = tt}).machine ∙ c.requires.machine)) c.requires.known)
 
 pub along_acting-requires-clause-row : goal.along_acting-requires-clause-row
 along_acting-requires-clause-row c = (c.requires.row.2.0, c.requires.row.2.1)
 
 pub go_past-requires-clause-row : goal.go_past-requires-clause-row
 go_past-requires-clause-row c =
-    let t = c.args.table.now in
-    let known = subst (λ m. IsKnown t m c.args.edges.now) (sym ((c.in_ok-make_room.ensures {u = tt}).machine ∙ c.requires.machine)) c.requires.known in
+    let t = c.args.primer.now.table.now in
+    let known = subst (λ m. IsKnown t m c.args.book.now.edges) (sym ((c.in_ok-make_room.ensures {u = tt}).machine ∙ c.requires.machine)) c.requires.known in
     let r = (c.in_ok-place.ensures {u = tt}).reached t known c.requires.row.0 c.requires.row.1 c.requires.row.2 in
     (r.reached.row_for.0, r.reached.row_for.1)
 
 pub returns-then-count-piece-clause-reached : goal.returns-then-count-piece-clause-reached
 returns-then-count-piece-clause-reached c =
-    let t = c.args.table.now in
-    let k = c.args.edges.now in
+    let t = c.args.primer.now.table.now in
+    let k = c.args.book.now.edges in
     let old = c.args.actor.now in
     let mid = c.make_room.new.actor in
     let new = c.along_acting.new.actor in
@@ -43,21 +43,21 @@ returns-then-count-piece-clause-reached c =
     let known = subst (λ m. IsKnown t m k) (sym (made.machine ∙ c.requires.machine)) c.requires.known in
     let few : place.count ≤ 4096 = omega (arith, gone.within, c.part_of-part.ensures.few) in
     let same : take place.count part ≡ take place.count piece = ap (take place.count) c.part_of-part.ensures.front ∙ take-take place.count 4096 piece few in
-    let run = reached_from t k k old mid new c.args.sheet.now c.make_room.new.sheet c.along_acting.new.sheet c.args.row place.row (take place.count part) x0 x1 y made.same (gone.reached t known) in
-    subst (λ l. ReachedOn t k k old new c.args.sheet.now c.along_acting.new.sheet c.args.row place.row l x0 y) same run
+    let run = reached_from t k k old mid new c.args.book.now.sheet c.make_room.new.sheet c.along_acting.new.sheet c.args.row place.row (take place.count part) x0 x1 y made.same (gone.reached t known) in
+    subst (λ l. ReachedOn t k k old new c.args.book.now.sheet c.along_acting.new.sheet c.args.row place.row l x0 y) same run
 
 pub returns-clause-reached : goal.returns-clause-reached
 returns-clause-reached c =
-    let t = c.args.table.now in
-    let k = c.args.edges.now in
-    let k' = c.go_past.new.edges in
+    let t = c.args.primer.now.table.now in
+    let k = c.args.book.now.edges in
+    let k' = c.go_past.new.book.edges in
     let old = c.args.actor.now in
     let mid = c.make_room.new.actor in
     let then = c.along_acting.new.actor in
     let new = c.go_past.new.actor in
-    let s = c.args.sheet.now in
+    let s = c.args.book.now.sheet in
     let s' = c.along_acting.new.sheet in
-    let s'' = c.go_past.new.sheet in
+    let s'' = c.go_past.new.book.sheet in
     let x0 = c.args.out.now.items in
     let x1 = c.make_room.new.out.items in
     let y = c.along_acting.new.out.items in

@@ -13,7 +13,7 @@ run_from-requires-clause-row c =
 
 pub returns-clause-goes : goal.returns-clause-goes
 returns-clause-goes c =
-    let t = c.args.table.now in
+    let t = c.args.primer.now.table.now in
     let old = c.args.actor.now in
     let new = c.run_from.new.actor in
     let row = subst (λ n. HasRowFor c.row_for.new.edges c.in-Some.row c.args.state n) c.node.ensures.at (subst (λ o. IfSome o (λ row. HasRowFor c.row_for.new.edges row c.args.state c.node.result)) c.in-Some.is (c.in_ok-row.ensures {u = tt}).row) in
@@ -21,10 +21,10 @@ returns-clause-goes c =
 
 pub returns-clause-bare : goal.returns-clause-bare
 returns-clause-bare c =
-    let t = c.args.table.now in
+    let t = c.args.primer.now.table.now in
     let q = c.args.state in
     let old = c.args.actor.now in
     let new = c.run_from.new.actor in
     let x = c.args.out.now.items in
     let y = c.run_from.new.out.items in
-    map_ok (λ (ran : Ran). GoesAlong t old new q ran.state (take ran.count c.args.piece.now) x y) (λ (ran : Ran). IsBareState t q → IsBareState t ran.state) c.run_from.result (λ ran goes. comes_bare t c.states.ensures.table old new q ran.state (take ran.count c.args.piece.now) x y goes) (returns-clause-goes c)
+    map_ok (λ (ran : Ran). GoesAlong t old new q ran.state (take ran.count c.args.piece.now) x y) (λ (ran : Ran). IsBareState t q → IsBareState t ran.state) c.run_from.result (λ ran goes. comes_bare t c.states-states.ensures.table old new q ran.state (take ran.count c.args.piece.now) x y goes) (returns-clause-goes c)

@@ -7,13 +7,13 @@ use Rattle.kex_moves.proofs.along.run_from.Given as goal
 abbrev pub invariant-rounds : goal.invariant-rounds
 invariant-rounds l = record {
   at : l.at ≤ length l.piece;
-  rows : (l.leaps.table ≡ l.fn.leaps.table) × (l.leaps.machine ≡ l.fn.leaps.machine);
-  known : IsKnown l.table l.machine l.edges;
-  machine : l.actor.machine ≡ l.machine;
+  rows : (l.book.leaps.table ≡ l.fn.book.leaps.table) × (l.book.leaps.machine ≡ l.fn.book.leaps.machine);
+  known : IsKnown l.primer.table.now l.primer.machine.now l.book.edges;
+  machine : l.actor.machine ≡ l.primer.machine.now;
   usable : IsTrue l.actor.usable;
-  sheet : IsSheet l.sheet;
-  room : length l.sheet.bytes.items ≡ 86033;
-  reached : ReachedOn l.table l.fn.edges l.edges l.fn.actor l.actor l.fn.sheet l.sheet l.fn.from l.row (take l.at l.piece) l.fn.out.items l.out.items;
+  sheet : IsSheet l.book.sheet;
+  room : length l.book.sheet.bytes.items ≡ 86033;
+  reached : ReachedOn l.primer.table.now l.fn.book.edges l.book.edges l.fn.actor l.actor l.fn.book.sheet l.book.sheet l.fn.from l.row (take l.at l.piece) l.fn.out.items l.out.items;
 }
 
 abbrev pub decreases-rounds : goal.decreases-rounds

@@ -23,7 +23,7 @@ loop-at-preserved-then-e-row c =
     let within : p.word < width = omega (arith, c.if-piece-width.false) in
     let lt : i < length edges = omega (arith, within, c.loop-at.invariant.row) in
     let step : IsWrittenEdge edges width c.loop-at.row p e = record { within = within; edge = edge_read edges i lt; written = sym c.is_written.ensures ∙ c.if-not-is_written.false } in
-    let from : RunStep = record { row = c.args.row; writes = take c.args.used c.args.buffer.now } in
+    let from : RunStep = record { row = c.args.from.row; writes = take c.args.from.used c.args.buffer.now } in
     let here : RunStep = record { row = c.loop-at.row; writes = take c.loop-at.used c.loop-at.buffer } in
     let next : RunStep = record { row = e.next; writes = take (c.loop-at.used + e.adds) c.put.new.buffer } in
     let writes = take (c.loop-at.used + e.adds + count * e.adds) c.stay-count.new.buffer in
@@ -50,7 +50,7 @@ loop-at-preserved c =
     let lt : i < length edges = omega (arith, within, c.loop-at.invariant.row) in
     let written : is_written e.kind ≡ true = sym c.is_written.ensures ∙ c.if-not-is_written.false in
     let room : HasRoom (length text) e = All-get_or (λ (e : Edge). is_written e.kind ≡ true → HasRoom (length text) e) edges i no_edge lt c.requires.text written in
-    let from : RunStep = record { row = c.args.row; writes = take c.args.used c.args.buffer.now } in
+    let from : RunStep = record { row = c.args.from.row; writes = take c.args.from.used c.args.buffer.now } in
     let here : RunStep = record { row = c.loop-at.row; writes = take c.loop-at.used c.loop-at.buffer } in
     let next : RunStep = record { row = e.next; writes = take (c.loop-at.used + e.adds) c.put.new.buffer } in
     record {
