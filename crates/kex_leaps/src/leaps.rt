@@ -9,7 +9,7 @@ use crate::credit::Credit;
 use crate::mark::Trace;
 use crate::perform::perform;
 pub use crate::scan::Leap;
-use crate::scan::scan;
+use crate::scan::{LeapStart, scan};
 use kex_action::actor::Actor;
 use kex_action::sheet::Sheet;
 use kex_code::memory::Memory;
@@ -87,8 +87,7 @@ impl<'p> Leaps<'p> {
             &mut self.ledger,
             &mut self.trace,
             &mut self.credit,
-            state,
-            node,
+            LeapStart { state, node },
             piece,
         )?;
         self.credit.end_scan(found.is_some());

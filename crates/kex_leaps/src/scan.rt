@@ -24,6 +24,13 @@ pub struct Leap {
     pub node: u32,
 }
 
+/// Where a leap begins: at a state without registers, where the actor is at a node.
+#[derive(Clone, Copy, Debug, PartialEq, Eq)]
+pub struct LeapStart {
+    pub state: u32,
+    pub node: u32,
+}
+
 /// Where a scan has come to: in the piece, and at which row.
 #[derive(Clone, Copy, Debug, PartialEq, Eq)]
 pub struct ScanPoint {
@@ -249,26 +256,25 @@ pub fn scan(
     ledger: &mut RowLedger,
     trace: &mut Trace,
     credit: &mut Credit,
-    state: u32,
-    node: u32,
+    from: LeapStart,
     piece: &[u8],
 ) -> Result<Option<Leap>, Memory>
     requires table { table.now ≡ ledger.old.table }
-    requires state { state < length ledger.old.table.states }
-    requires node { node < length ledger.old.machine.nodes }
+    requires state { from.state < length ledger.old.table.states }
+    requires node { from.node < length ledger.old.machine.nodes }
     ensures table { ledger.new.table ≡ ledger.old.table }
     ensures machine { ledger.new.machine ≡ ledger.old.machine }
     ensures within { IfOk result (λ o. IfSome o (λ s. s.count ≤ length piece.now)) }
     ensures leap { IfOk result (λ o. IfSome o (λ s.
-        IsLeap ledger.old.table ledger.old.machine.nodes state node (take s.count piece.now)
-        (acts_in piece.now trace.new.acts.items) s.state s.node)) }
+        IsLeap ledger.old.table ledger.old.machine.nodes from.state from.node
+        (take s.count piece.now) (acts_in piece.now trace.new.acts.items) s.state s.node)) }
     ensures acts { IfOk result (λ o.
         IfSome o (λ s. AreActsWithin (length piece.now) trace.new.acts.items)) }
     ensures to { IfOk result (λ o. IfSome o (λ s. (s.state < length ledger.old.table.states)
         × (s.node < length ledger.old.machine.nodes))) }
 {
     trace.clear();
-    let Some(row) = ledger.bare_row_of(state, node)? else {
+    let Some(row) = ledger.bare_row_of(from.state, from.node)? else {
         return Ok(None);
     };
     let last = scan_from(ledger, table, row, piece, trace, credit)?;
