@@ -36,7 +36,7 @@ fn taken<R: Threads + Sync>(
 #[test]
 fn all_four_parts_are_taken_over(rt: HostRuntime) -> Result<(), Fail> {
     let alloc = rt.alloc();
-    let compiled = compile(alloc, b"main := (/[a-z]*/ \"!\" /\\n/)*", &ANY)?;
+    let compiled = compile(alloc, b"main := (/[a-z]*/ \"!\" /\\n/)*", &ANY)?.shorten(alloc)?;
     let plan = compiled.stages().first().ok_or("no stage")?;
     let lines = b"someletters\n".repeat(alloc, 8_000)?;
     let (first, both) = taken(&rt, alloc, plan, &lines)?;
