@@ -1,5 +1,5 @@
 // How a run's input is cut for stages whose desks share it.
-ghost use Rattle.std.specs.Prelude.{◌<◌, ◌≤◌};
+ghost use Rattle.std.specs.Prelude.{◌≡◌, ◌<◌, ◌≤◌, ◌||◌, nat_lt};
 
 use crate::piece_length::PieceLength;
 use crate::rounds::MUCH;
@@ -107,7 +107,9 @@ impl Sharing {
 
     /// Learns how many bytes were given, how many at most lay before a stage for them, and how many
     /// are output.
-    pub(crate) fn learn(&mut self, given: usize, waited: usize, output: usize) {
+    pub(crate) fn learn(&mut self, given: usize, waited: usize, output: usize)
+        ensures begun { self.new.begun ≡ (self.old.begun || nat_lt 1 waited) }
+    {
         self.begun = self.begun || waited > 1;
         self.length.learn(given, waited.max(output));
     }
