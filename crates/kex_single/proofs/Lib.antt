@@ -1,3 +1,5 @@
-pub mod Coders
+pub mod Codings
+pub mod PathCodes
+pub mod TableCodes
 pub mod Testers
 pub mod Players

@@ -1,5 +1,6 @@
 pub mod Singles
 pub mod Standing
+pub mod Told
 pub mod CodeLaws
 pub mod TestLaws
 pub mod Plays

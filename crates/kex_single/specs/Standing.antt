@@ -1,13 +1,14 @@
 -- What a worker on one stage stands for, and how its machine takes a piece.
-use Rattle.std.specs.Prelude.{◌≡◌, ℕ, ◌<◌, ◌+◌, Bool, true, false, List, ◌++◌, Option, Some, None}
+use Rattle.std.specs.Prelude.{ℕ, ◌<◌, ◌+◌, Bool, true, false, List, ◌++◌, Option, Some, None}
 use Rattle.std.specs.Prelude.{length, take}
-use Rattle.kex_code.specs.declared.symbol.Symbol.{Symbol}
-use Rattle.kex_code.specs.Texts.{text_of}
 use Rattle.kex_machine.specs.Nodes.{Graph}
 use Rattle.kex_machine.specs.Answers.{IsViableFor}
-use Rattle.kex_frontier.specs.Frontiers.{Front, IsFed}
 use Rattle.kex_frontier.specs.declared.frontier.Ended.{Ended}
 use Rattle.kex_frontier.specs.declared.frontier.Ended.TheVariants.{Parsed, Cut}
+use Rattle.kex_runner.specs.declared.answers.Ended as runs
+use Rattle.kex_runner.specs.declared.answers.Ended.TheVariants as run_ends
+use Rattle.kex_runner.specs.declared.answers.Fed.{Fed}
+use Rattle.kex_runner.specs.declared.answers.Fed.TheVariants.{On, Dead}
 use Rattle.kex_frontier.specs.declared.matcher.Matched.{Matched}
 use Rattle.kex_frontier.specs.declared.matcher.Matched.TheVariants as match
 
@@ -32,13 +33,14 @@ abbrev pub is_parsed : Ended → Bool
 is_parsed Parsed = true
 is_parsed Cut = false
 
--- the oracle was fed w, and the text of its code was written
-pub record CodeFollows (f : Front) (read : ℕ) (w text : List ℕ) : Type 0 where
-  pub code : List Symbol
-  pub fed : IsFed f w code
-  pub written : text ≡ text_of code
-  pub count : read ≡ length w
-  pub good : IsViableFor f.machine w
+abbrev pub is_parsed_run : runs.Ended → Bool
+is_parsed_run run_ends.Parsed = true
+is_parsed_run run_ends.Cut = false
+
+-- the number in a piece of the byte after its good ones, where that was refused
+abbrev pub stopped_at : Fed → ℕ → Option ℕ
+stopped_at On good = None
+stopped_at Dead good = Some good
 
 abbrev pub dead_at : Matched → Option ℕ
 dead_at match.On = None

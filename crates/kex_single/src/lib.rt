@@ -5,8 +5,11 @@
 //! written and where it stops.
 #![tactic(auto)]
 
+mod code_oracle;
 mod coder;
+mod path_codes;
 mod player;
+mod table_codes;
 mod tester;
 
 pub use coder::Coder;

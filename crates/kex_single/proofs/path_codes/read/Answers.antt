@@ -3,7 +3,7 @@ use Rattle.std.specs.Prelude.{slice_index_or}
 use Rattle.std.proofs.lemmas.List.{take_all}
 use Rattle.kex_machine.specs.Answers.{IsViableFor}
 use Rattle.kex_frontier.specs.Frontiers.{IsFed}
-use Rattle.kex_single.proofs.coder.read.Goals as goal
+use Rattle.kex_single.proofs.path_codes.read.Goals as goal
 
 next_byte : (w piece : List ℕ) (i : ℕ) → i < length piece → (w ++ take i piece) ++ slice_index_or piece i 0 ∷ [] ≡ w ++ take (i + 1) piece
 next_byte w piece i h = append_assoc w (take i piece) _ ∙ ap (λ z. w ++ z) (sym (ap (λ (n : ℕ). take n piece) (add-one i) ∙ take-suc piece i 0 h))

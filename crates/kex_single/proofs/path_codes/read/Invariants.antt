@@ -3,7 +3,7 @@ use Rattle.std.specs.Prelude.{IsTrue}
 use Rattle.kex_code.specs.declared.symbol.Symbol.{Symbol}
 use Rattle.kex_frontier.specs.Frontiers.{IsFed}
 use Rattle.kex_machine.specs.Answers.{IsViableFor}
-use Rattle.kex_single.proofs.coder.read.Given as goal
+use Rattle.kex_single.proofs.path_codes.read.Given as goal
 
 abbrev pub invariant-loop-i : goal.invariant-loop-i
 invariant-loop-i l = record {
