@@ -1,11 +1,12 @@
 // The commands on a program of one stage.
-ghost use Rattle.std.specs.Prelude.{◌≡◌, ◌∷◌, [], IfOk, None, OnErr};
+ghost use Rattle.std.specs.Prelude.{◌≡◌, ◌≤◌, ◌∷◌, [], IfOk, IfSome, None, OnErr};
 ghost use Rattle.kex_top.specs.Pipelines.{AlwaysAnswers};
 ghost use Rattle.std.proofs.Common.{ap};
 ghost use Rattle.kex_ports.specs.Reads.{last_given};
 ghost use Rattle.kex_single.specs.CodeLaws as code;
 ghost use Rattle.kex_single.specs.PlayedLaws as act;
 ghost use Rattle.kex_single.specs.TestLaws as test;
+ghost use Rattle.kex_sst.specs.Machines.{IsTableOf};
 ghost use Rattle.kex_words.specs.Gains.{StreamChange, change_of};
 ghost use Rattle.kex_words.specs.Words.Mode.{acting, coding, testing};
 ghost use Rattle.kex_top.specs.Modes.{MachinesSay};
@@ -21,12 +22,23 @@ use crate::rounds::Pace;
 use crate::status::Status;
 use crate::stream::run;
 use kex_code::memory::Memory;
+use kex_constants::{LONGEST, clear_table};
+use kex_determine::determine;
+use kex_determine::refusal::DetRefusal;
 use kex_machine::Trimmed;
 use kex_pipe::turn::Turn;
 use kex_ports::{Gate, NeverFailsSink, Sink, Source};
 use kex_single::{Coder, Player, Tester};
+use kex_sst::table::Table;
 use kex_words::RunLimits;
+use std::alloc::Global;
 use std::thread::Threads;
+
+/// How many states a table may have by which a code is found.
+const MOST_STATES: usize = 1_024;
+
+/// And how many leaves and classes all its states may have, if each has as many as can be.
+const MOST_STEPS: usize = 2_097_152;
 
 impl<'m> Limited for Plain<Coder<'m>> {
     type Desk = NoDesk;
@@ -90,7 +102,29 @@ fn run_one<R: Threads + Sync, T: Limited + Drop + Send, G: Gate + Sync, S: Sourc
     run(host, &mut pipe, pace, limits, input, output)
 }
 
-/// Writes the code of the input.
+// How many states a table of a machine may have by which a code is found: less where each may have
+// many leaves, or leads on by many classes.
+fn most_states(machine: &Trimmed) -> u32
+    ensures { result ≤ 1024 }
+{
+    let classes = machine.partition().classes() as usize;
+    let width = machine.nodes().len().saturating_mul(classes);
+    (MOST_STEPS / width.max(1)).min(MOST_STATES) as u32
+}
+
+// A table of a machine, without constant registers, if the machine has few states.
+fn table_of(alloc: Global, machine: &Trimmed) -> Result<Option<Table>, Memory>
+    ensures { IfOk result (λ o. IfSome o (λ t. IsTableOf machine.now t)) }
+{
+    match determine(alloc, machine, most_states(machine)) {
+        Ok(table) => Ok(Some(clear_table(alloc, &table, LONGEST)?)),
+        Err(DetRefusal::TooManyStates { .. }) => Ok(None),
+        Err(DetRefusal::Memory) => Err(Memory),
+    }
+}
+
+/// Writes the code of the input. It is found by the machine's table where that has few states, and
+/// else by paths.
 pub(crate) fn code<R: Threads + Sync, G: Gate + Sync, S: Source, K: Sink>(
     host: &Host<R, G>,
     machine: &Trimmed,
@@ -109,8 +143,8 @@ pub(crate) fn code<R: Threads + Sync, G: Gate + Sync, S: Source, K: Sink>(
         Closes (K.ending output.old) (K.ending output.new) status) }
     ensures left { OnErr result ((input.new ≡ input.old) × (output.new ≡ output.old)) }
 {
-    let _nodes = machine.nodes();
-    let coder = Coder::new(host.alloc, machine, limits.max_input)?;
+    let table = table_of(host.alloc, machine)?;
+    let coder = Coder::new(host.alloc, machine, table.as_ref(), limits.max_input)?;
     let stage = Plain {
         alloc: host.alloc,
         stage: coder,
