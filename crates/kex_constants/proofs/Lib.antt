@@ -4,3 +4,6 @@ mod ClearedRuns
 mod Certificates
 mod ClearedTables
 mod Machines
+mod CopiedRuns
+mod CopiedTables
+mod CopiedLists

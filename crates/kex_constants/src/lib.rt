@@ -7,19 +7,22 @@
 
 mod check;
 mod choices;
+mod copies;
 mod guess;
 mod known;
 mod rewrite;
 mod shared;
+mod split;
 
 ghost use Rattle.std.specs.Prelude.{IfOk};
 ghost use Rattle.kex_machine.specs.Nodes.{Graph};
 ghost use Rattle.kex_sst.specs.Machines.{IsBestTableOf, IsTableOf};
-ghost use Rattle.kex_constants.specs.Alike.{PassAlike};
+ghost use Rattle.kex_constants.specs.Alike.{PassAlike, SpeakAlike};
 
 use crate::check::checked;
 use crate::guess::guessed;
 use crate::rewrite::without_constants;
+use crate::split::split_table;
 use kex_code::memory::Memory;
 use kex_sst::table::Table;
 use std::alloc::Global;
@@ -40,4 +43,17 @@ pub fn clear_table(alloc: Global, table: &Table, longest: usize) -> Result<Table
     let guess = guessed(alloc, table, longest)?;
     let constants = checked(alloc, table, guess)?;
     without_constants(alloc, table, &constants)
+}
+
+/// The same, after states are split so that more registers are constant: those of which every
+/// register is constant on some ways into them. The states have other numbers then.
+pub fn shorten_table(alloc: Global, table: &Table, longest: usize) -> Result<Table, Memory>
+    ensures alike { IfOk result (λ t. SpeakAlike table.now t) }
+    ensures machine { IfOk result (λ t. (g : Graph) → IsTableOf g table.now → IsTableOf g t) }
+    ensures best { IfOk result (λ t. (g : Graph) → IsBestTableOf g table.now → IsBestTableOf g t) }
+{
+    match split_table(alloc, table, longest)? {
+        None => clear_table(alloc, table, longest),
+        Some(split) => clear_table(alloc, &split, longest),
+    }
 }

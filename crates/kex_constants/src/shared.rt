@@ -54,7 +54,7 @@ pub fn is_same(left: &Option<Choices>, right: &Option<Choices>) -> bool
 }
 
 // Whether the same is known of all registers.
-fn are_same(left: &[Option<Choices>], right: &[Option<Choices>]) -> bool
+pub fn are_same(left: &[Option<Choices>], right: &[Option<Choices>]) -> bool
     ensures { result ≡ true → left.now ≡ right.now }
 {
     if left.len() != right.len() {
