@@ -1,7 +1,7 @@
 //! Constants that are found. No clause says that any are.
 use crate::made::ANY;
 use kex_compile::compile;
-use kex_constants::clear_table;
+use kex_constants::{clear_table, shorten_table};
 use kex_sst::table::Table;
 use kex_stage::plan::Plan;
 use std::alloc::{AllocError, Global};
@@ -18,18 +18,19 @@ fn registers(alloc: Global, table: &Table) -> Result<String, AllocError> {
 }
 
 // How many choices a constant may have, a program, and how many registers each state of its table
-// has, before and after. In the table of the last but one a register is given `L` on one way and
-// `LL` on another, and in that of the last one registers hold bytes.
+// has: before, after, and where states were split first. In the table of the last but one a register
+// is given `L` on one way and `LL` on another, and its state has a copy for each. In that of the
+// last one registers hold bytes.
 const TABLES: &str = r#"
-16 main := /([a-z]*,[a-z]*\n)*/ => has 4 2 2, then 0 0 0
-0 main := /([a-z]*,[a-z]*\n)*/ => has 4 2 2, then 4 2 2
-4 main := (1 | no) (1 | no) (1 | no) /a/ | /b/ no := /c/ no => has 2 0, then 0 0
-3 main := (1 | no) (1 | no) (1 | no) /a/ | /b/ no := /c/ no => has 2 0, then 1 0
-16 main := /x/ (a | b) | /y/ ((1 | no) a | b) a := /a/ b := /b/ no := /c/ no => has 2 2 0, then 0 1 0
-16 main := "1" /a*b/ | "2" /a*c/ => has 6 0, then 2 0
+16 main := /([a-z]*,[a-z]*\n)*/ => has 4 2 2, then 0 0 0, split 0 0 0
+0 main := /([a-z]*,[a-z]*\n)*/ => has 4 2 2, then 4 2 2, split 4 2 2
+4 main := (1 | no) (1 | no) (1 | no) /a/ | /b/ no := /c/ no => has 2 0, then 0 0, split 0 0
+3 main := (1 | no) (1 | no) (1 | no) /a/ | /b/ no := /c/ no => has 2 0, then 1 0, split 1 0
+16 main := /x/ (a | b) | /y/ ((1 | no) a | b) a := /a/ b := /b/ no := /c/ no => has 2 2 0, then 0 1 0, split 0 0 0 0
+16 main := "1" /a*b/ | "2" /a*c/ => has 6 0, then 2 0, split 0 2 0
 "#;
 
-// How many registers the states of a program's table have, before and after.
+// How many registers the states of a program's table have: before, after, and where they are split.
 fn cleared(alloc: Global, text: &str, longest: usize) -> Result<String, Fail> {
     let compiled = compile(alloc, text.as_bytes(), &ANY)?;
     let table = compiled
@@ -39,7 +40,8 @@ fn cleared(alloc: Global, text: &str, longest: usize) -> Result<String, Fail> {
         .ok_or("no table")?;
     let before = registers(alloc, table)?;
     let after = registers(alloc, &clear_table(alloc, table, longest)?)?;
-    let counts = format!(in alloc; "has{before}, then{after}")?;
+    let split = registers(alloc, &shorten_table(alloc, table, longest)?)?;
+    let counts = format!(in alloc; "has{before}, then{after}, split{split}")?;
     Ok(counts)
 }
 

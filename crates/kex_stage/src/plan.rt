@@ -10,7 +10,7 @@ ghost use Rattle.kex_stage.specs.declared.plan.Telling.TheVariants as telling;
 use crate::common::Common;
 use crate::route::Route;
 use kex_code::memory::Memory;
-use kex_constants::{LONGEST, clear_table};
+use kex_constants::{LONGEST, shorten_table};
 use kex_machine::Trimmed;
 use kex_runner::shared_guide::SharedGuide;
 use kex_sst::table::Table;
@@ -96,15 +96,15 @@ fn has_registers(table: &Table) -> bool {
     false
 }
 
-// A table without constant registers, if there is a table with registers.
+// A table whose states are split, and without constant registers, if there is one with registers.
 fn shorter_of(alloc: Global, table: &Option<Common<Table>>) -> Result<Option<Common<Table>>, Memory>
     ensures { IfOk result (λ o. (k : Telling) (g : Graph) → IsTableFor k g table.now
         → IfSome o (λ t. IsTableAs k g t)) }
 {
     match table {
         Some(table) if has_registers(table.get()) => {
-            let cleared = clear_table(alloc, table.get(), LONGEST)?;
-            let shorter = Common::new(alloc, cleared)?;
+            let shorter = shorten_table(alloc, table.get(), LONGEST)?;
+            let shorter = Common::new(alloc, shorter)?;
             Ok(Some(shorter))
         }
         _ => Ok(None),

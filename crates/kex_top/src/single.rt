@@ -22,9 +22,8 @@ use crate::rounds::Pace;
 use crate::status::Status;
 use crate::stream::run;
 use kex_code::memory::Memory;
-use kex_constants::{LONGEST, clear_table};
+use kex_constants::{LONGEST, shorten_table};
 use kex_determine::determine;
-use kex_determine::refusal::DetRefusal;
 use kex_machine::Trimmed;
 use kex_pipe::turn::Turn;
 use kex_ports::{Gate, NeverFailsSink, Sink, Source};
@@ -112,14 +111,17 @@ fn most_states(machine: &Trimmed) -> u32
     (MOST_STEPS / width.max(1)).min(MOST_STATES) as u32
 }
 
-// A table of a machine, without constant registers, if the machine has few states.
-fn table_of(alloc: Global, machine: &Trimmed) -> Result<Option<Table>, Memory>
-    ensures { IfOk result (λ o. IfSome o (λ t. IsTableOf machine.now t)) }
+// A table of a machine, without constant registers, if the machine has few states and there is
+// memory for it.
+fn table_of(alloc: Global, machine: &Trimmed) -> Option<Table>
+    ensures { IfSome result (λ t. IsTableOf machine.now t) }
 {
-    match determine(alloc, machine, most_states(machine)) {
-        Ok(table) => Ok(Some(clear_table(alloc, &table, LONGEST)?)),
-        Err(DetRefusal::TooManyStates { .. }) => Ok(None),
-        Err(DetRefusal::Memory) => Err(Memory),
+    let Ok(table) = determine(alloc, machine, most_states(machine)) else {
+        return None;
+    };
+    match shorten_table(alloc, &table, LONGEST) {
+        Ok(short) => Some(short),
+        Err(Memory) => None,
     }
 }
 
@@ -143,7 +145,8 @@ pub(crate) fn code<R: Threads + Sync, G: Gate + Sync, S: Source, K: Sink>(
         Closes (K.ending output.old) (K.ending output.new) status) }
     ensures left { OnErr result ((input.new ≡ input.old) × (output.new ≡ output.old)) }
 {
-    let table = table_of(host.alloc, machine)?;
+    let _nodes = machine.nodes();
+    let table = table_of(host.alloc, machine);
     let coder = Coder::new(host.alloc, machine, table.as_ref(), limits.max_input)?;
     let stage = Plain {
         alloc: host.alloc,
