@@ -2,7 +2,8 @@
 """Runs programs of examples/ and tests/, and two with many states that are made here, over generated input, beside other
 tools that are installed.
 
-  bench/bench.py --kex crates/kex/out/kex            a table: MB/s of processor time, peak memory, and time a byte at 1, 4 and 16 MiB
+  bench/bench.py --kex crates/kex/out/kex            a table: MB/s of processor time, peak memory, and time a byte at 1, 4 and 16 MiB;
+                                                     and one of kex alone: run by the wall, test, code, and the start
   bench/bench.py --kex crates/kex/out/kex --check    64 KiB of each: only whether all outputs agree
 
 Inputs are made from a seed, so they are the same each time. MB/s is 10^6 bytes of input by user and system time, the least of the runs.
@@ -17,6 +18,7 @@ import string
 import subprocess
 import sys
 import tempfile
+import time
 
 HERE = os.path.dirname(os.path.abspath(__file__))
 FOLDERS = [os.path.join(HERE, "..", it) for it in ("examples", "tests")]
@@ -196,6 +198,35 @@ def measure(folder, kex, name, wanted, size, runs):
     return cells, peak, per_byte
 
 
+def rate(command, source, target, runs):
+    """MB/s of processor time, if the command ends well."""
+    status, seconds, _ = best(command, source, target, runs)
+    return "%.0f" % (os.path.getsize(source) / 1e6 / seconds) if status == 0 else ""
+
+
+def wall_rate(command, source, target, runs):
+    """MB/s of the time that passes."""
+    passed = []
+    for _ in range(runs):
+        begun = time.perf_counter()
+        run(command, source, target)
+        passed.append(time.perf_counter() - begun)
+    return "%.0f" % (os.path.getsize(source) / 1e6 / min(passed))
+
+
+def measure_more(folder, kex, name, size, runs):
+    """What kex does beside: run by the time that passes, test and code where there is one stage, and run on no input."""
+    source = make_input(folder, name, size)
+    path = program(name, folder)
+    started = best(kex + ["run", path], os.devnull, os.devnull, runs)[1] * 1e3
+    return [
+        wall_rate(kex + ["run", path], source, os.devnull, runs),
+        rate(kex + ["test", path], source, os.devnull, runs),
+        rate(kex + ["code", path], source, os.devnull, runs),
+        "%.1f" % started,
+    ]
+
+
 def main():
     parser = argparse.ArgumentParser(description=__doc__, formatter_class=argparse.RawDescriptionHelpFormatter)
     parser.add_argument("--kex", required=True, metavar="PATH", help="the program kex, run as PATH run PROGRAM")
@@ -205,7 +236,8 @@ def main():
     parser.add_argument("--tools", default="", metavar="A,B", help="peers: " + ", ".join(TOOLS))
     parser.add_argument("--check", action="store_true", help="only whether outputs agree, on 64 KiB")
     words_given = parser.parse_args()
-    kex = [os.path.abspath(words_given.kex), "run"]
+    bare = [os.path.abspath(words_given.kex)]
+    kex = bare + ["run"]
     names = [n for n in words_given.only.split(",") if n] or list(WORKLOADS)
     wanted = [t for t in words_given.tools.split(",") if t]
     if not shutil.which("cc"):
@@ -226,6 +258,10 @@ def main():
             cells, peak, per_byte = measure(folder, kex, name, wanted, words_given.size * MIB, words_given.runs)
             row = ["" if t not in cells else "differs" if cells[t] is None else "%.0f" % cells[t] for t in ["kex"] + tools]
             print("| %s | %s | %d | %s |" % (name, " | ".join(row), peak, ", ".join(per_byte)), flush=True)
+        print("\n| kex over %d MiB | run, MB/s by the wall | test, MB/s | code, MB/s | start, ms |" % words_given.size)
+        print("|---|" + "---:|" * 4)
+        for name in names:
+            print("| %s | %s |" % (name, " | ".join(measure_more(folder, bare, name, words_given.size * MIB, words_given.runs))), flush=True)
     return 0
 
 
