@@ -2,7 +2,7 @@ use Rattle.std.proofs.Common.{subst}
 use Rattle.std.specs.Prelude.{IfSome}
 use Rattle.kex_constants.specs.Alike.{PassAlike, SpeakAlike}
 use Rattle.kex_constants.proofs.CopiedLists.{if_ok}
-use Rattle.kex_constants.proofs.CopiedRuns.{speaks, speaks_on}
+use Rattle.kex_constants.proofs.Machines.{speaks, speaks_on}
 use Rattle.kex_constants.proofs.shorten_table.Goals as goal
 
 pub returns-in-None-clause-alike : goal.returns-in-None-clause-alike

@@ -3,7 +3,8 @@ use Rattle.kex_sst.specs.Machines.{IsBestTableOf, IsTableOf}
 use Rattle.kex_constants.specs.Alike.{SpeakAlike}
 use Rattle.kex_constants.specs.Copies.{HasCopiedStates}
 use Rattle.kex_constants.proofs.CopiedLists.{if_some}
-use Rattle.kex_constants.proofs.CopiedRuns.{machine_alike, split_alike}
+use Rattle.kex_constants.proofs.CopiedRuns.{split_alike}
+use Rattle.kex_constants.proofs.Machines.{machine_alike}
 use Rattle.kex_constants.proofs.split.split_table.Goals as goal
 
 pub returns-clause-alike : goal.returns-clause-alike
