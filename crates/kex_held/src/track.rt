@@ -6,7 +6,7 @@ ghost use Rattle.kex_held.specs.Tracks.{TracksAny, GoesBy, StepsBy, own_all};
 
 use crate::item::RegisterText;
 use crate::link::Link;
-use crate::upper::{Place, able_nodes, start_of, upper_end};
+use crate::upper::{Place, able_nodes, by_taken, start_of, upper_end};
 use crate::walk::learn_to_rest;
 use kex_action::action::Action;
 use kex_code::memory::Memory;
@@ -221,20 +221,26 @@ impl<'t> ListTracker<'t> {
         &self,
         known: &[Tracked],
         forks: &[u32],
-        parts: &[Part],
+        lists: &[Parts],
         place: Place,
     ) -> Result<Vec<u32>, Memory> {
+        let Some(list) = lists.get(known.len()) else {
+            return Ok(Vec::new(self.alloc));
+        };
+        let parts = list.as_slice();
         let machine = self.machine;
-        let mut able = able_nodes(self.alloc, machine, self.texts, forks, parts, self.byte)?;
+        let able = able_nodes(self.alloc, machine, self.texts, forks, parts, self.byte)?;
+        let (mut starts, taken) = by_taken(self.alloc, known, lists, &able, parts)?;
         let start = match start_of(self.texts, parts) {
             Some(start) => Some(start),
-            None if able.len() == 1 => None,
+            None if starts.len() == 1 => None,
             None => upper_end(self.alloc, self.table, machine, known, place)?,
         };
         if let Some(start) = start {
-            able.insert(0, start)?;
+            starts.insert(0, start)?;
         }
-        Ok(able)
+        starts.extend_from_slice(&taken)?;
+        Ok(starts)
     }
 
     /// The lists of parts of new registers of a state, each from the upper end of its edge of the
@@ -243,7 +249,8 @@ impl<'t> ListTracker<'t> {
     /// A list that goes on with an old register begins where that begins. Another upper end is a
     /// node with a choice, to which the root or a lower end leads without a byte, and from which
     /// the list can be taken where the byte is read. Where there are several, what comes later says
-    /// which it is. Nothing rests on that: what is tracked is right from whichever node.
+    /// which it is, or else the order of the lists (`by_taken`). Nothing rests on that: what is
+    /// tracked is right from whichever node.
     pub fn track_edges(
         &self,
         state: u32,
@@ -268,7 +275,7 @@ impl<'t> ListTracker<'t> {
                 register,
             };
             let list = parts.as_slice();
-            let starts = self.starts_of(&all, &forks, list, place)?;
+            let starts = self.starts_of(&all, &forks, lists, place)?;
             let Some(tracked) = track_from_any(alloc, machine, self.texts, &starts, list)? else {
                 return Ok(None);
             };

@@ -122,6 +122,60 @@ pub fn able_nodes(
     Ok(able)
 }
 
+// Whether one of the lists begins at a node as these parts do.
+fn is_taken(known: &[Tracked], lists: &[Parts], node: u32, parts: &[Part]) -> bool {
+    for (number, tracked) in known.iter().enumerate() {
+        if tracked.from() == node && begins_alike(lists, number, parts) {
+            return true;
+        }
+    }
+    false
+}
+
+// Whether the list of a number begins with the same part.
+fn begins_alike(lists: &[Parts], number: usize, parts: &[Part]) -> bool {
+    match lists.get(number) {
+        Some(list) => list.as_slice().first() == parts.first(),
+        None => false,
+    }
+}
+
+// Where the left side of a node is taken the latest, its right side is likely next.
+fn put_latest(known: &[Tracked], nodes: &mut Vec<u32>) -> Result<(), Memory> {
+    for later in 0..known.len() {
+        let node = known[known.len() - 1 - later].from();
+        if nodes.contains(&node) {
+            nodes.insert(0, node)?;
+            return Ok(());
+        }
+    }
+    Ok(())
+}
+
+/// The nodes at which parts may begin, apart by whether an earlier list begins there as they do:
+/// edges of the path tree begin apart, in preorder. The likeliest is first.
+pub fn by_taken(
+    alloc: Global,
+    known: &[Tracked],
+    lists: &[Parts],
+    nodes: &[u32],
+    parts: &[Part],
+) -> Result<(Vec<u32>, Vec<u32>), Memory> {
+    let mut free = Vec::new(alloc);
+    let mut taken = Vec::new(alloc);
+    for node in nodes {
+        if is_taken(known, lists, *node, parts) {
+            taken.push(*node)?;
+        } else {
+            free.push(*node)?;
+        }
+    }
+    if free.len() > 1 && parts.first() == Some(&Part::Put(Symbol::R)) {
+        put_latest(known, &mut free)?;
+    }
+    Ok((free, taken))
+}
+
 /// The node at which a list begins that goes on with an old register.
 pub fn start_of(texts: &[RegisterText], parts: &[Part]) -> Option<u32> {
     match parts.first() {
@@ -236,6 +290,9 @@ fn look(
                 )?;
             }
             Came::Nowhere => {}
+        }
+        if known.is_empty() {
+            continue;
         }
         if let Some(node) = behind_any(machine, known, update, place.register) {
             return Ok(Some(node));
