@@ -1,6 +1,6 @@
 -- Rows by number stay right where one is added, and where one is noted of.
 use Rattle.std.proofs.Common.{◌≡◌, ℕ, zero, suc, ◌<◌, List, [], ◌∷◌, ◌++◌, Some, None, All, get_or, set, length, replicate, refl, sym, ap, subst, ◌∙◌, arith, ⊎_elim, append-nil, get_or-set_same, get_or-set_other}
-use Rattle.std.specs.Prelude.{slice_get}
+use Rattle.std.specs.Prelude.{slice_get, IsTrue}
 use Rattle.std.proofs.Math.ListN.{length-set, length-replicate, get_or-replicate}
 use Rattle.std.proofs.lemmas.List.{map-append, length-map}
 use Rattle.std.proofs.lemmas.List.Elements.{All-push, All-set}
@@ -11,12 +11,14 @@ use Rattle.kex_machine.specs.declared.MNode.{MNode}
 use Rattle.kex_machine.specs.Nodes.{Graph}
 use Rattle.kex_sst.specs.Tables.{Transducer}
 use Rattle.kex_held.specs.declared.item.HeldItem.{HeldItem}
+use Rattle.kex_held.specs.declared.item.HeldItem.TheVariants.{Slice}
 use Rattle.kex_held.specs.Tracks.{HeldList}
-use Rattle.kex_held.specs.HeldRows.{HeldRow, RowEdge}
+use Rattle.kex_held.specs.HeldRows.{HeldRow}
 use Rattle.kex_held.specs.LearntEdges.{IsRowWithin, IsLearnt}
 use Rattle.kex_held_rows.specs.declared.note.RowNote.{RowNote}
-use Rattle.kex_held_rows.specs.declared.note.RowNote.TheVariants.{Unknown, Plain, Stays, Goes}
-use Rattle.kex_held_rows.specs.Books.{RowNotes, RowBook, rows_in, IsNoteRight, IsEntryRight, IsBook, KeepsRows}
+use Rattle.kex_held_rows.specs.declared.note.RowNote.TheVariants.{Unknown, Plain, Stays, HandsOn, Marks, Goes}
+use Rattle.kex_held_rows.specs.NumberedEdges.{NumberedEdge}
+use Rattle.kex_held_rows.specs.Books.{RowNotes, RowBook, rows_in, IsNoteOf, IsNoteRight, IsEntryRight, IsBook, KeepsRows}
 
 -- what is there stays where more comes after it
 some_front : {A : Type 0} (xs ys : List A) (i : ℕ) (x : A) → slice_get xs i ≡ Some x → slice_get (xs ++ ys) i ≡ Some x
@@ -40,6 +42,8 @@ note_wider : (t : Transducer) (nodes : List MNode) (rows more : List HeldRow) (r
 note_wider t nodes rows more r class Unknown p = tt
 note_wider t nodes rows more r class Plain p = tt
 note_wider t nodes rows more r class Stays p = p
+note_wider t nodes rows more r class HandsOn p = p
+note_wider t nodes rows more r class (Marks n) p = (p.0, some_front rows more n p.0 p.1, p.2)
 note_wider t nodes rows more r class (Goes e) p = (p.0, some_front rows more e.to p.0 p.1, p.2, p.3)
 
 entry_wider : (t : Transducer) (g : Graph) (rows more : List HeldRow) (x : RowNotes) → IsEntryRight t g rows x → IsEntryRight t g (rows ++ more) x
@@ -162,7 +166,19 @@ pub none_left : {A : Type 0} (xs : List A) → length xs ≡ 0 → xs ≡ []
 none_left [] e = refl
 none_left (x ∷ xs) e = absurd (omega arith)
 
--- an edge that leads back with nothing for the output
-pub learnt_back : (t : Transducer) (nodes : List MNode) (r : HeldRow) (class : ℕ) (e : RowEdge) → IsLearnt t nodes r class e → e.to ≡ r → e.outs ≡ [] → IsLearnt t nodes r class (record { to = r; outs = []; keep = e.keep })
-learnt_back t nodes r class e l to outs =
-    subst (λ o. IsLearnt t nodes r class (record { to = r; outs = o; keep = e.keep })) outs (subst (λ q. IsLearnt t nodes r class (record { to = q; outs = e.outs; keep = e.keep })) to l)
+-- an edge that leads back, by what it has for the output
+back_with : (t : Transducer) (nodes : List MNode) (rows : List HeldRow) (r to : HeldRow) (class number : ℕ) (e : NumberedEdge) (outs : List HeldItem) → IsLearnt t nodes r class (record { to = to; outs = e.outs; keep = e.keep }) → slice_get rows number ≡ Some r → slice_get rows e.to ≡ Some to → e.to ≡ number → e.outs ≡ outs → IsLearnt t nodes r class (record { to = r; outs = outs; keep = e.keep })
+back_with t nodes rows r to class number e outs learnt here there is same =
+    subst (λ o. IsLearnt t nodes r class (record { to = r; outs = o; keep = e.keep })) same (subst (λ q. IsLearnt t nodes r class (record { to = q; outs = e.outs; keep = e.keep })) (one_value (sym there ∙ ap (slice_get rows) is ∙ here)) learnt)
+  where
+    one_value : {a b : HeldRow} → Some a ≡ Some b → a ≡ b
+    one_value f = cc
+
+-- what is noted of an edge that is learnt, from a row to another
+pub right_note : (t : Transducer) (nodes : List MNode) (rows : List HeldRow) (r to : HeldRow) (class number : ℕ) (e : NumberedEdge) (n : RowNote) → IsLearnt t nodes r class (record { to = to; outs = e.outs; keep = e.keep }) → slice_get rows number ≡ Some r → slice_get rows e.to ≡ Some to → (IsTrue e.bare → to.lists ≡ []) → IsNoteOf number r.marks e n → IsNoteRight t nodes rows r class n
+right_note t nodes rows r to class number e Unknown learnt here there bare said = absurd said
+right_note t nodes rows r to class number e Plain learnt here there bare said = absurd said
+right_note t nodes rows r to class number e Stays learnt here there bare said = (e.keep, said.2, back_with t nodes rows r to class number e [] learnt here there said.0 said.1)
+right_note t nodes rows r to class number e HandsOn learnt here there bare said = (said.1, subst (λ k. IsLearnt t nodes r class (record { to = r; outs = Slice 0 1 ∷ []; keep = k })) said.3 (back_with t nodes rows r to class number e (Slice 0 1 ∷ []) learnt here there said.0 said.2))
+right_note t nodes rows r to class number e (Marks n) learnt here there bare said = (to, ap (slice_get rows) said.0 ∙ there, (e.keep, said.2, said.3, subst (λ o. IsLearnt t nodes r class (record { to = to; outs = o; keep = e.keep })) said.1 learnt))
+right_note t nodes rows r to class number e (Goes d) learnt here there bare said = subst (λ x. IsNoteRight t nodes rows r class (Goes x)) (sym said) (to, there, learnt, bare)

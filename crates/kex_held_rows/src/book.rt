@@ -6,7 +6,8 @@ ghost use Rattle.kex_byteset.specs.Classes.{class_count};
 ghost use Rattle.kex_held.specs.HeldRows.{HeldRow};
 ghost use Rattle.kex_held.specs.LearntEdges.{IsRowWithin};
 ghost use Rattle.kex_held_rows.specs.declared.note.RowNote.TheVariants.{Unknown};
-ghost use Rattle.kex_held_rows.specs.Books.{RowNotes, rows_in, bare_row, IsNoteRight, KeepsRows};
+ghost use Rattle.kex_held_rows.specs.Books.{RowNotes, rows_in, bare_row, IsNoteOf, IsNoteRight};
+ghost use Rattle.kex_held_rows.specs.Books.{KeepsRows};
 
 use crate::note::{KnownEdge, KnownRow, RowNote};
 use crate::same::is_same_row;
@@ -34,8 +35,8 @@ const LOOKS: u32 = 64;
 /// Rows of a table and a machine by number, each with what is known of it at each class of bytes.
 /// It is learnt when it is asked for.
 ///
-/// There are bounds on all rows, which `is_full` asks for, and on those of one state. Past them no
-/// more rows are made, and what would lead to one is noted as plain. `forget` keeps one row alone.
+/// There are bounds on all rows, and on those of one state. Past them no more rows are made, and
+/// what would lead to one is noted as plain.
 #[derive(Drop)]
 pub struct RowLedger<'p> {
     alloc: Global,
@@ -156,6 +157,26 @@ fn put_note(rows: &mut Vec<KnownRow>, number: usize, class: usize, note: RowNote
     known.note(class, note);
 }
 
+// What is to be noted of an edge, of the row of a number with that many marks.
+fn note_of(number: usize, marks: u8, edge: KnownEdge) -> RowNote
+    ensures { IsNoteOf number marks edge result }
+{
+    let stays = edge.to() as usize == number;
+    if stays && marks == 1 && edge.hands_on() {
+        return RowNote::HandsOn;
+    }
+    if !edge.is_silent() {
+        return RowNote::Goes(edge);
+    }
+    if stays {
+        return RowNote::Stays;
+    }
+    if edge.keep().len() == marks as usize + 1 {
+        return RowNote::Marks(edge.to());
+    }
+    RowNote::Goes(edge)
+}
+
 impl<'p> RowLedger<'p> {
     /// No rows.
     pub fn new(
@@ -177,8 +198,8 @@ impl<'p> RowLedger<'p> {
         })
     }
 
-    /// Whether there may be no more rows.
-    pub fn is_full(&self) -> bool {
+    // Whether there may be no more rows.
+    fn is_full(&self) -> bool {
         let classes = self.table.partition().classes() as usize;
         self.rows.len() >= MOST_ROWS || self.rows.len() >= MOST_NOTES / (classes + 1)
     }
@@ -221,13 +242,6 @@ impl<'p> RowLedger<'p> {
         self.row_of(row)
     }
 
-    /// How many rows there are.
-    pub fn count(&self) -> usize
-        ensures { result ≡ length self.now.rows }
-    {
-        self.rows.len()
-    }
-
     /// The row of a number.
     pub fn row_at(&self, number: usize) -> &TextRow
         requires { number < length self.now.rows }
@@ -258,13 +272,9 @@ impl<'p> RowLedger<'p> {
             class n) }
         ensures keeps { KeepsRows self.old self.new }
     {
-        let learnt = learn_edge(
-            self.alloc,
-            self.table,
-            self.machine,
-            self.row_at(number),
-            class,
-        )?;
+        let from = self.row_at(number);
+        let marks = from.marks();
+        let learnt = learn_edge(self.alloc, self.table, self.machine, from, class)?;
         let Some(edge) = learnt else {
             return Ok(RowNote::Plain);
         };
@@ -274,10 +284,7 @@ impl<'p> RowLedger<'p> {
             return Ok(RowNote::Plain);
         };
         let known = KnownEdge::new(to, bare, outs, keep);
-        if to as usize == number && known.is_silent() {
-            return Ok(RowNote::Stays);
-        }
-        Ok(RowNote::Goes(known))
+        Ok(note_of(number, marks, known))
     }
 
     /// Learns what a row does at a class.
@@ -288,24 +295,6 @@ impl<'p> RowLedger<'p> {
     {
         let note = self.note_for(number, class)?;
         put_note(&mut self.rows, number, class as usize, note);
-        Ok(())
-    }
-
-    /// Forgets all rows but one, which is the first then, and of which nothing is known.
-    pub fn forget(&mut self, number: usize) -> Result<(), Memory>
-        requires { number < length self.old.rows }
-        ensures table { self.new.table ≡ self.old.table }
-        ensures machine { self.new.machine ≡ self.old.machine }
-        ensures row { OnOk result ((r : HeldRow) → slice_get (rows_in self.old.rows) number ≡ Some r
-            → rows_in self.new.rows ≡ r ∷ []) }
-    {
-        let row = self.rows.swap_remove(number).into_row();
-        let state = row.state();
-        let classes = self.table.partition().classes() as usize;
-        self.heads.fill(NO_ROW);
-        self.rows.clear();
-        let earlier = head_of(&mut self.heads, state, 0);
-        push_row(self.alloc, &mut self.rows, row, earlier, classes)?;
         Ok(())
     }
 }

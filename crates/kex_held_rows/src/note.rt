@@ -1,9 +1,12 @@
 // What is known of a row.
 
-ghost use Rattle.std.specs.Prelude.{◌≡◌, ◌<◌, [], IfOk, IsTrue, length, replicate, slice_set};
+ghost use Rattle.std.specs.Prelude.{◌≡◌, ◌<◌, [], ◌∷◌, IfOk, IsTrue, length, replicate};
+ghost use Rattle.std.specs.Prelude.{slice_set, true};
+ghost use Rattle.kex_held.specs.declared.item.HeldItem.TheVariants.{Slice};
 ghost use Rattle.kex_held_rows.specs.NumberedEdges.{HasFirsts};
 ghost use Rattle.kex_held_rows.specs.declared.note.RowNote.TheVariants.{Unknown};
 
+use crate::same::are_same_items;
 use kex_code::memory::Memory;
 use kex_held::item::HeldItem;
 use kex_held::row::TextRow;
@@ -41,6 +44,13 @@ fn count_firsts(keep: &[u8]) -> usize
         }
     }
     keep.len()
+}
+
+// Whether two lists of points are the same.
+fn are_same_points(left: &[u8], right: &[u8]) -> bool
+    ensures { result ≡ true → left.now ≡ right.now }
+{
+    left == right
 }
 
 impl KnownEdge {
@@ -101,6 +111,14 @@ impl KnownEdge {
     {
         self.outs.is_empty() && self.firsts == self.keep.len()
     }
+
+    /// Whether the bytes from the first point to the second go to the output, and the second is the
+    /// one that stays.
+    pub fn hands_on(&self) -> bool
+        ensures { IsTrue result → (self.now.outs ≡ Slice 0 1 ∷ []) × (self.now.keep ≡ 1 ∷ []) }
+    {
+        are_same_items(&self.outs, &[HeldItem::Slice(0, 1)]) && are_same_points(&self.keep, &[1])
+    }
 }
 
 /// What is known of a row at a class of bytes.
@@ -112,6 +130,12 @@ pub enum RowNote {
     Plain,
     /// The row stays: nothing goes to the output, and the marks stay.
     Stays,
+    /// The row stays, with one mark: the bytes from there up to this one go to the output, and this
+    /// one is marked.
+    HandsOn,
+    /// It goes to the row of this number: nothing goes to the output, the marks stay, and the place
+    /// of the byte is one more.
+    Marks(u32),
     /// It goes along an edge.
     Goes(KnownEdge),
 }
@@ -167,13 +191,6 @@ impl KnownRow {
         ensures { result.now ≡ self.now.row }
     {
         &self.row
-    }
-
-    /// The row, which is moved.
-    pub fn into_row(self) -> TextRow
-        ensures { result ≡ self.row }
-    {
-        self.row
     }
 
     /// The number of an earlier row of its state.

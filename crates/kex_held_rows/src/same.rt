@@ -6,7 +6,7 @@ use kex_held::item::{HeldItem, RegisterText};
 use kex_held::row::TextRow;
 
 // Whether two lists are the same.
-fn are_same_items(left: &[HeldItem], right: &[HeldItem]) -> bool
+pub(crate) fn are_same_items(left: &[HeldItem], right: &[HeldItem]) -> bool
     ensures { result ≡ true → left.now ≡ right.now }
 {
     left == right

@@ -1,6 +1,8 @@
 -- What is done of a leap, act by act.
-use Rattle.std.proofs.Common.{◌≡◌, ℕ, zero, suc, ◌<◌, ◌≤◌, ◌+◌, List, [], ◌∷◌, get_or, take, length, reverse, sym, ap, subst, ◌∙◌, arith}
-use Rattle.std.proofs.lemmas.List.{take_more, map-append}
+use Rattle.std.proofs.Common.{◌≡◌, ℕ, zero, suc, ◌<◌, ◌≤◌, ◌+◌, ◌-◌, List, [], ◌∷◌, ◌++◌, get_or, take, drop, length, reverse, refl, sym, ap, ap₂, subst, ◌∙◌, arith, take-append-drop}
+use Rattle.std.proofs.lemmas.List.{take_more, take_all, map-append, drop-take, length-append, length-drop, get_or_append_left}
+use Rattle.std.proofs.lemmas.List.Elements.{All-drop}
+use Rattle.std.proofs.Math.Seq.{get_or-append_seam}
 use Rattle.kex_model.specs.Acting.{ActingState}
 use Rattle.kex_machine.specs.declared.MNode.{MNode}
 use Rattle.kex_machine.specs.Nodes.{node_moves}
@@ -11,19 +13,60 @@ use Rattle.kex_action.specs.declared.sheet.Sheet.{Sheet}
 use Rattle.kex_action.specs.Sheets.{IsSheet, IsBlank, AreMarks}
 use Rattle.kex_held.specs.Acts.{after_act, after_acts}
 use Rattle.kex_held.proofs.ActLists.{acted-append}
+use Rattle.kex_held.proofs.ListJoins.{slices_joined}
 use Rattle.kex_leaps.specs.declared.act.LeapAct.{LeapAct}
-use Rattle.kex_leaps.specs.Leaps.{act_in, acts_in}
+use Rattle.kex_leaps.specs.declared.act.LeapAct.TheVariants.{Text}
+use Rattle.kex_leaps.specs.Leaps.{act_in, acts_in, IsActWithin, AreActsWithin, DoesAll}
 
 pub blank_sheet : (s : Sheet) → IsBlank s → IsSheet s
 blank_sheet s b = record { used = omega (arith, b.0); marks = subst (λ ms. AreMarks s.used (reverse ms)) (sym b.1) tt }
 
--- one act more
-pub performed_more : (nodes : List MNode) (piece : List ℕ) (xs : List LeapAct) (i : ℕ) (d : LeapAct) (s z z' : ActingState) → i < length xs → z ≡ after_acts nodes (acts_in piece (take i xs)) s → z' ≡ after_act nodes (act_in piece (get_or xs i d)) z → z' ≡ after_acts nodes (acts_in piece (take (i + 1) xs)) s
-performed_more nodes piece xs i d s z z' lt e f =
+take_front : {A : Type 0} (at m : ℕ) (xs : List A) → at ≤ m → take at (take m xs) ≡ take at xs
+take_front zero m xs le = refl
+take_front (suc at) zero xs le = absurd (omega (arith, le))
+take_front (suc at) (suc m) [] le = refl
+take_front (suc at) (suc m) (x ∷ xs) le = ap (λ l. x ∷ l) (take_front at m xs (omega (arith, le)))
+
+take_apart : {A : Type 0} (at n : ℕ) (xs : List A) → take (at + n) xs ≡ take at xs ++ take n (drop at xs)
+take_apart at n xs = sym (take-append-drop at (take (at + n) xs)) ∙ ap₂ (λ l k. l ++ k) (take_front at (at + n) xs (omega arith)) (drop-take at n xs)
+
+front_within : (high : ℕ) (xs ys : List LeapAct) → AreActsWithin high (xs ++ ys) → AreActsWithin high xs
+front_within high xs ys all = λ i d lt. subst (IsActWithin high) (get_or_append_left xs ys d i lt) (all i d (omega (arith, lt, length-append xs ys)))
+
+last_within : (high : ℕ) (xs : List LeapAct) (x : LeapAct) → AreActsWithin high (xs ++ x ∷ []) → IsActWithin high x
+last_within high xs x all = subst (IsActWithin high) (get_or-append_seam xs x [] x) (all (length xs) x (omega (arith, length-append xs (x ∷ []))))
+
+pub part_within : (high : ℕ) (xs : List LeapAct) (at n : ℕ) → AreActsWithin high xs → AreActsWithin high (take n (drop at xs))
+part_within high xs at n all = front_within high (take n (drop at xs)) (drop n (drop at xs)) (subst (AreActsWithin high) (sym (take-append-drop n (drop at xs))) (All-drop (IsActWithin high) at xs all))
+
+-- some acts more, that one does
+pub performed_all : (nodes : List MNode) (piece : List ℕ) (xs : List LeapAct) (at n : ℕ) (x : LeapAct) (s z z' : ActingState) → AreActsWithin (length piece) xs → DoesAll (take n (drop at xs)) x → z ≡ after_acts nodes (acts_in piece (take at xs)) s → z' ≡ after_act nodes (act_in piece x) z → z' ≡ after_acts nodes (acts_in piece (take (at + n) xs)) s
+performed_all nodes piece xs at n x s z z' within does e f =
     f
-    ∙ ap (after_act nodes (act_in piece (get_or xs i d))) e
-    ∙ sym (acted-append nodes (acts_in piece (take i xs)) (act_in piece (get_or xs i d) ∷ []) s)
-    ∙ ap (λ l. after_acts nodes l s) (sym (map-append (λ x. act_in piece x) (take i xs) (get_or xs i d ∷ [])) ∙ ap (acts_in piece) (sym (take_more xs i d lt)))
+    ∙ ap (after_act nodes (act_in piece x)) e
+    ∙ sym ((does nodes piece (part_within (length piece) xs at n within)).1 (after_acts nodes (acts_in piece (take at xs)) s))
+    ∙ sym (acted-append nodes (acts_in piece (take at xs)) (acts_in piece (take n (drop at xs))) s)
+    ∙ ap (λ l. after_acts nodes l s) (sym (map-append (λ x. act_in piece x) (take at xs) (take n (drop at xs))) ∙ ap (acts_in piece) (sym (take_apart at n xs)))
+
+-- what is after the first `at` is all the rest
+pub does_rest : (xs : List LeapAct) (at n : ℕ) (x : LeapAct) → DoesAll (take n (take (length xs - at) (drop at xs))) x → DoesAll (take n (drop at xs)) x
+does_rest xs at n x does = subst (λ l. DoesAll (take n l) x) (take_all (length xs - at) (drop at xs) (omega (arith, length-drop at xs))) does
+
+-- a text that goes on where others end
+pub does_more : (xs : List LeapAct) (i : ℕ) (d : LeapAct) (a m b : ℕ) → i < length xs → get_or xs i d ≡ Text m b → DoesAll (take i xs) (Text a m) → DoesAll (take (i + 1) xs) (Text a b)
+does_more xs i d a m b lt e does = λ nodes piece within.
+    let whole : take (i + 1) xs ≡ take i xs ++ Text m b ∷ [] = take_more xs i d lt ∙ ap (λ x. take i xs ++ x ∷ []) e in
+    let all : AreActsWithin (length piece) (take i xs ++ Text m b ∷ []) = subst (AreActsWithin (length piece)) whole within in
+    let first = does nodes piece (front_within (length piece) (take i xs) (Text m b ∷ []) all) in
+    let last : IsActWithin (length piece) (Text m b) = last_within (length piece) (take i xs) (Text m b) all in (
+      (omega (arith, first.0.0, last.0), last.1),
+      λ s.
+          ap (λ l. after_acts nodes (acts_in piece l) s) whole
+          ∙ ap (λ l. after_acts nodes l s) (map-append (λ x. act_in piece x) (take i xs) (Text m b ∷ []))
+          ∙ acted-append nodes (acts_in piece (take i xs)) (act_in piece (Text m b) ∷ []) s
+          ∙ ap (after_act nodes (act_in piece (Text m b))) (first.1 s)
+          ∙ slices_joined nodes piece a m b first.0.0 last.0 s,
+    )
 
 -- of one action, that was done or not
 pub one_done : (nodes : List MNode) (by n : ℕ) (s z : ActingState) → n ≤ 1 → 0 < n → z ≡ after_actions nodes 0 (take n (Node by ∷ [])) s → z ≡ after_move (node_moves nodes by) s

@@ -1,8 +1,8 @@
 -- A scan goes on along what is noted of rows.
-use Rattle.std.proofs.Common.{◌≡◌, ℕ, zero, suc, ◌≤◌, ◌<◌, ◌+◌, List, [], ◌∷◌, ◌++◌, Some, All, length, take, get_or, refl, sym, ap, ap₂, subst, ◌∙◌, arith, append-nil, append_assoc}
+use Rattle.std.proofs.Common.{◌≡◌, ℕ, zero, suc, ◌≤◌, ◌<◌, ◌+◌, ◌-◌, List, [], ◌∷◌, ◌++◌, Some, All, length, take, get_or, refl, sym, ap, ap₂, subst, ◌∙◌, arith, append-nil, append_assoc}
 use Rattle.std.specs.Prelude.{slice_get}
-use Rattle.std.proofs.lemmas.List.{take_more, take-append-le, map-append, length-append, length-map, length-take-le, get_or-map, ext_get_or}
-use Rattle.std.proofs.lemmas.List.Elements.{All-append}
+use Rattle.std.proofs.lemmas.List.{take_more, take-append-le, map-append, length-append, length-map, length-take-le, get_or-map, ext_get_or, take_all, get_or_append_left}
+use Rattle.std.proofs.lemmas.List.Elements.{All-append, All-push}
 use Rattle.std.proofs.lemmas.Option.{slice_get-get_or, slice_get_within}
 use Rattle.kex_byteset.specs.Classes.{class_at}
 use Rattle.kex_code.specs.declared.symbol.Symbol.{Symbol}
@@ -13,23 +13,25 @@ use Rattle.kex_sst.specs.Passes.{passes_if}
 use Rattle.kex_sst.proofs.Passes.{passes_more}
 use Rattle.kex_held.specs.declared.item.HeldItem.{HeldItem}
 use Rattle.kex_held.specs.declared.item.HeldItem.TheVariants as items
-use Rattle.kex_held.specs.Acts.{bytes, effect}
+use Rattle.kex_held.specs.Acts.{bytes, effect, after_acts}
 use Rattle.kex_held.specs.TreeEdges.{DoesActs, AreHeld}
 use Rattle.kex_held.specs.HeldRuns.{pass_with}
-use Rattle.kex_held.specs.Slices.{acts_over, AreRising, points_of, edge_points, IsItemWithin, AreItemsWithin, AreKept, marks_by}
+use Rattle.kex_held.specs.Slices.{acts_over, AreRising, points_of, edge_points, slice_between, IsItemWithin, AreItemsWithin, AreKept, marks_by}
 use Rattle.kex_held.specs.Windows.{points_at}
 use Rattle.kex_held.specs.HeldRows.{HeldRow, RowEdge, state_over, FitsWindow, tree_edges_of}
 use Rattle.kex_held.specs.LearntEdges.{IsLearnt}
-use Rattle.kex_held.proofs.ActLists.{does_none, does_more}
+use Rattle.kex_held.proofs.ActLists.{does_none, does_more, does_same}
+use Rattle.kex_held.proofs.ListJoins.{same_within, slices_joined}
 use Rattle.kex_held.proofs.HeldRows.{RowOn, row_on}
 use Rattle.kex_held.proofs.LearntEdges.{right_learnt}
 use Rattle.kex_held.proofs.MarkedTexts.{count_at, at_mark, points_same, points_rise_at, slice_read}
 use Rattle.kex_held_rows.specs.NumberedEdges.{NumberedEdge}
-use Rattle.kex_held_rows.specs.declared.note.RowNote.TheVariants.{Goes}
-use Rattle.kex_held_rows.specs.Books.{RowNotes, RowBook, rows_in, bare_row, StaysAtRow, IsNoteRight, KeepsRows}
+use Rattle.kex_held_rows.specs.declared.note.RowNote.TheVariants.{Marks, Goes}
+use Rattle.kex_held_rows.specs.Books.{RowNotes, RowBook, rows_in, bare_row, AreFirst, StaysAtRow, HandsOnAtRow, IsNoteRight, KeepsRows}
 use Rattle.kex_held_rows.proofs.RowBooks.{kept_at}
 use Rattle.kex_leaps.specs.declared.act.LeapAct.{LeapAct}
 use Rattle.kex_leaps.specs.declared.act.LeapAct.TheVariants.{Text, Effect}
+use Rattle.kex_leaps.proofs.KeptMarks.{firsts_marked}
 use Rattle.kex_leaps.specs.Leaps.{act_in, acts_in, IsActWithin, AreActsWithin, leap_act, leap_acts, without_registers, IsLeap, HasScanned}
 
 -- what an edge's items come to over what was read is what their acts come to in the piece
@@ -146,20 +148,78 @@ scan_ends t nodes rows q n piece at row marks acts s none = record {
     empty : s.registers ≡ []
     empty = of_none s.registers (subst (λ l. AreHeld nodes (tree_edges_of (take at piece) (points_of (take at piece) marks) l) s.registers) none s.held)
 
+-- marks of which all stay
+marks_stay : (t : Transducer) (nodes : List MNode) (r : HeldRow) (class at : ℕ) (marks keep : List ℕ) (outs : List HeldItem) → AreFirst keep → IsLearnt t nodes r class (record { to = r; outs = outs; keep = keep }) → length marks ≡ r.marks → marks_by (points_at at marks) keep ≡ marks
+marks_stay t nodes r class at marks keep outs first learnt count = ext_get_or 0 (marks_by (points_at at marks) keep) marks (length-map keep (λ i. get_or (points_at at marks) i 0) ∙ long) (λ i lt. each i (omega (arith, lt, length-map keep (λ i. get_or (points_at at marks) i 0))))
+  where
+    long : length keep ≡ length marks
+    long = learnt.count ∙ sym count
+
+    each : (i : ℕ) → i < length keep → get_or (marks_by (points_at at marks) keep) i 0 ≡ get_or marks i 0
+    each i lt = get_or-map (λ i. get_or (points_at at marks) i 0) keep i 0 0 lt ∙ ap (λ k. get_or (points_at at marks) k 0) (first i lt) ∙ at_mark at marks i (omega (arith, lt, long))
+
 -- at a byte of a class at which the row stays
 pub scan_stays : (t : Transducer) (nodes : List MNode) (rows : List HeldRow) (q n : ℕ) (piece : List ℕ) (at row class : ℕ) (marks : List ℕ) (acts : List LeapAct) → (s : HasScanned t nodes rows q n piece at row marks acts) → at < length piece → slice_get t.classes (get_or piece at 0) ≡ Some class → StaysAtRow t nodes s.to class → HasScanned t nodes rows q n piece (at + 1) row marks acts
 scan_stays t nodes rows q n piece at row class marks acts s lt is stays =
     let on = scan_goes t nodes rows q n piece at row class row marks acts (record { to = s.to; outs = []; keep = stays.0 }) s lt is stays.2 s.is in
-    subst (λ m. HasScanned t nodes rows q n piece (at + 1) row m acts) same (subst (λ l. HasScanned t nodes rows q n piece (at + 1) row (marks_by (points_at at marks) stays.0) l) (append-nil acts) on)
+    subst (λ m. HasScanned t nodes rows q n piece (at + 1) row m acts) (marks_stay t nodes s.to class at marks stays.0 [] stays.1 stays.2 s.fits.count) (subst (λ l. HasScanned t nodes rows q n piece (at + 1) row (marks_by (points_at at marks) stays.0) l) (append-nil acts) on)
+
+-- at a byte of a class at which what is held is handed on
+pub scan_hands : (t : Transducer) (nodes : List MNode) (rows : List HeldRow) (q n : ℕ) (piece : List ℕ) (at row class m : ℕ) (marks : List ℕ) (acts : List LeapAct) → (s : HasScanned t nodes rows q n piece at row marks acts) → at < length piece → slice_get t.classes (get_or piece at 0) ≡ Some class → HandsOnAtRow t nodes s.to class → marks ≡ m ∷ [] → HasScanned t nodes rows q n piece (at + 1) row (at ∷ []) (acts ++ Text m at ∷ [])
+scan_hands t nodes rows q n piece at row class m marks acts s lt is hands one =
+    subst (λ l. HasScanned t nodes rows q n piece (at + 1) row (marks_by (points_at at l) (1 ∷ [])) (acts ++ leap_acts at l (items.Slice 0 1 ∷ []))) one (scan_goes t nodes rows q n piece at row class row marks acts (record { to = s.to; outs = items.Slice 0 1 ∷ []; keep = 1 ∷ [] }) s lt is hands.1 s.is)
+
+-- two texts that touch are one
+scan_joined : (t : Transducer) (nodes : List MNode) (rows : List HeldRow) (q n : ℕ) (piece : List ℕ) (at row : ℕ) (marks : List ℕ) (acts : List LeapAct) (a m b : ℕ) → a ≤ m → m ≤ b → b ≤ at → HasScanned t nodes rows q n piece at row marks ((acts ++ Text a m ∷ []) ++ Text m b ∷ []) → HasScanned t nodes rows q n piece at row marks (acts ++ Text a b ∷ [])
+scan_joined t nodes rows q n piece at row marks acts a m b le le' le'' s = record {
+  to = s.to;
+  is = s.is;
+  fits = s.fits;
+  said = s.said;
+  registers = s.registers;
+  passed = s.passed;
+  held = s.held;
+  does = does_same nodes n s.to.node s.said (acts_in piece apart) (acts_in piece (acts ++ Text a b ∷ [])) s.does (λ z. ap (λ l. after_acts nodes l z) before ∙ same_within nodes (acts_in piece acts) (bytes (slice_between piece a m) ∷ bytes (slice_between piece m b) ∷ []) (bytes (slice_between piece a b) ∷ []) [] (slices_joined nodes piece a m b le le') z ∙ ap (λ l. after_acts nodes l z) after);
+  within = All-push (IsActWithin at) acts (Text a b) (λ i d lt. front (get_or acts i d) i d lt refl) (omega (arith, le, le'), le'');
+}
   where
-    long : length stays.0 ≡ length marks
-    long = stays.2.count ∙ sym s.fits.count
+    apart : List LeapAct
+    apart = (acts ++ Text a m ∷ []) ++ Text m b ∷ []
 
-    each : (i : ℕ) → i < length stays.0 → get_or (marks_by (points_at at marks) stays.0) i 0 ≡ get_or marks i 0
-    each i lt = get_or-map (λ i. get_or (points_at at marks) i 0) stays.0 i 0 0 lt ∙ ap (λ k. get_or (points_at at marks) k 0) (stays.1 i lt) ∙ at_mark at marks i (omega (arith, lt, long))
+    before : acts_in piece apart ≡ acts_in piece acts ++ ((bytes (slice_between piece a m) ∷ bytes (slice_between piece m b) ∷ []) ++ [])
+    before = ap (acts_in piece) (append_assoc acts (Text a m ∷ []) (Text m b ∷ [])) ∙ acts-append piece acts (Text a m ∷ Text m b ∷ [])
 
-    same : marks_by (points_at at marks) stays.0 ≡ marks
-    same = ext_get_or 0 (marks_by (points_at at marks) stays.0) marks (length-map stays.0 (λ i. get_or (points_at at marks) i 0) ∙ long) (λ i lt. each i (omega (arith, lt, length-map stays.0 (λ i. get_or (points_at at marks) i 0))))
+    after : acts_in piece acts ++ ((bytes (slice_between piece a b) ∷ []) ++ []) ≡ acts_in piece (acts ++ Text a b ∷ [])
+    after = sym (acts-append piece acts (Text a b ∷ []))
+
+    front : (x : LeapAct) (i : ℕ) (d : LeapAct) → i < length acts → get_or acts i d ≡ x → IsActWithin at x
+    front x i d lt e = subst (IsActWithin at) (ap (λ l. get_or l i d) (append_assoc acts (Text a m ∷ []) (Text m b ∷ [])) ∙ get_or_append_left acts (Text a m ∷ Text m b ∷ []) d i lt ∙ e) (s.within i d (omega (arith, lt, length-append (acts ++ Text a m ∷ []) (Text m b ∷ []), length-append acts (Text a m ∷ []))))
+
+-- at one byte more
+pub scan_hands_on : (t : Transducer) (nodes : List MNode) (rows : List HeldRow) (q n : ℕ) (piece : List ℕ) (first at row class : ℕ) (acts : List LeapAct) → first < at → (s : HasScanned t nodes rows q n piece at row ((at - 1) ∷ []) (acts ++ Text first (at - 1) ∷ [])) → at < length piece → slice_get t.classes (get_or piece at 0) ≡ Some class → HandsOnAtRow t nodes s.to class → HasScanned t nodes rows q n piece (at + 1) row (at ∷ []) (acts ++ Text first at ∷ [])
+scan_hands_on t nodes rows q n piece first at row class acts less s lt is hands =
+    scan_joined t nodes rows q n piece (at + 1) row (at ∷ []) acts first (at - 1) at (omega (arith, less)) (omega arith) (omega arith) (scan_hands t nodes rows q n piece at row class (at - 1) ((at - 1) ∷ []) (acts ++ Text first (at - 1) ∷ []) s lt is hands refl)
+
+-- a row with one mark
+pub one_mark : (marks : List ℕ) (d : ℕ) → length marks ≡ 1 → marks ≡ get_or marks 0 d ∷ []
+one_mark [] d e = absurd (omega (arith, e))
+one_mark (m ∷ []) d e = refl
+one_mark (m ∷ k ∷ marks) d e = absurd (omega (arith, e))
+
+-- at a byte of a class at which a mark more is set
+pub scan_marks : (t : Transducer) (nodes : List MNode) (rows : List HeldRow) (q n : ℕ) (piece : List ℕ) (at row class number : ℕ) (marks marks' : List ℕ) (acts acts' : List LeapAct) → (s : HasScanned t nodes rows q n piece at row marks acts) → at < length piece → slice_get t.classes (get_or piece at 0) ≡ Some class → IsNoteRight t nodes rows s.to class (Marks number) → marks' ≡ marks ++ at ∷ [] → acts' ≡ acts → HasScanned t nodes rows q n piece (at + 1) number marks' acts'
+scan_marks t nodes rows q n piece at row class number marks marks' acts acts' s lt is right em ea =
+    let on = scan_goes t nodes rows q n piece at row class number marks acts (record { to = right.0; outs = []; keep = keep }) s lt is right.2.3 right.1 in
+    subst (λ m. HasScanned t nodes rows q n piece (at + 1) number m acts') (sym (em ∙ same)) (subst (λ l. HasScanned t nodes rows q n piece (at + 1) number (marks_by (points_at at marks) keep) l) (append-nil acts ∙ sym ea) on)
+  where
+    keep : List ℕ
+    keep = right.2.0
+
+    long : length keep ≡ length marks + 1
+    long = right.2.2 ∙ ap (λ k. k + 1) (sym s.fits.count)
+
+    same : marks ++ at ∷ [] ≡ marks_by (points_at at marks) keep
+    same = ap (λ l. l ++ at ∷ []) (sym (take_all (length marks) marks (omega arith))) ∙ firsts_marked at marks keep (length marks) (omega arith) long (λ i less. right.2.1 i (omega (arith, less, long))) (right.2.1 (length marks) (omega (arith, long)))
 
 pub item_in : (count : ℕ) (xs : List HeldItem) (i : ℕ) (d : HeldItem) → AreItemsWithin count xs → i < length xs → IsItemWithin count (get_or xs i d)
 item_in count [] i d h lt = absurd (omega (arith, lt))

@@ -1,12 +1,13 @@
 -- Leaps: a table goes from a state without registers to another, along rows of held text.
-use Rattle.std.specs.Prelude.{◌≡◌, ◌≤◌, ℕ, List, [], ◌++◌, Some, All, map, take, get_or, slice_get}
+use Rattle.std.specs.Prelude.{◌≡◌, ◌≤◌, ℕ, List, [], ◌∷◌, ◌++◌, Some, All, map, take, length}
+use Rattle.std.specs.Prelude.{get_or, slice_get}
 use Rattle.kex_code.specs.declared.symbol.Symbol.{Symbol}
 use Rattle.kex_machine.specs.declared.MNode.{MNode}
 use Rattle.kex_sst.specs.Tables.{Transducer}
 use Rattle.kex_sst.specs.Passes.{passes_if}
 use Rattle.kex_held.specs.declared.item.HeldItem.{HeldItem}
 use Rattle.kex_held.specs.declared.item.HeldItem.TheVariants as items
-use Rattle.kex_held.specs.Acts.{Act, bytes, effect}
+use Rattle.kex_held.specs.Acts.{Act, bytes, effect, MakeSame}
 use Rattle.kex_held.specs.TreeEdges.{DoesActs, AreHeld}
 use Rattle.kex_held.specs.Tracks.{HeldState}
 use Rattle.kex_held.specs.HeldRuns.{pass_with}
@@ -31,6 +32,11 @@ IsActWithin high (Effect n) = Unit {0}
 
 abbrev pub AreActsWithin : ℕ → List LeapAct → Type 0
 AreActsWithin high xs = All (IsActWithin high) xs
+
+-- one does what these do one after another, within the same bytes
+abbrev pub DoesAll : List LeapAct → LeapAct → Type 0
+DoesAll xs x = (nodes : List MNode) (piece : List ℕ) → AreActsWithin (length piece) xs
+    → IsActWithin (length piece) x × MakeSame nodes (acts_in piece xs) (act_in piece x ∷ [])
 
 -- an item of an edge at the byte after the first `at`
 abbrev pub leap_act : ℕ → List ℕ → HeldItem → LeapAct

@@ -1,9 +1,10 @@
 // Marks in a piece, and what is to be done along it.
 
-ghost use Rattle.std.specs.Prelude.{◌≡◌, ◌<◌, ◌≤◌, ◌+◌, ◌^◌, ◌++◌, ℕ, [], false, IsTrue, IfOk};
-ghost use Rattle.std.specs.Prelude.{OnOk, length, get_or};
+ghost use Rattle.std.specs.Prelude.{◌≡◌, ◌<◌, ◌≤◌, ◌+◌, ◌^◌, ◌++◌, ◌∷◌, ℕ, [], false, IsTrue};
+ghost use Rattle.std.specs.Prelude.{IfOk, OnOk, length, get_or};
 ghost use Rattle.kex_held.specs.Slices.{IsItemWithin, AreItemsWithin, AreKept, marks_by};
 ghost use Rattle.kex_held.specs.Windows.{points_at};
+ghost use Rattle.kex_leaps.specs.declared.act.LeapAct.TheVariants.{Text};
 ghost use Rattle.kex_leaps.specs.Leaps.{leap_act, leap_acts};
 
 use crate::act::LeapAct;
@@ -162,6 +163,33 @@ impl Trace {
     {
         self.marks.clear();
         self.acts.clear();
+    }
+
+    /// One mark more. There is room mostly: what makes room is apart.
+    #[inline(always)]
+    pub fn mark(&mut self, at: usize) -> Result<(), Memory>
+        ensures marks { OnOk result (self.new.marks.items ≡ self.old.marks.items ++ at ∷ []) }
+        ensures acts { self.new.acts.items ≡ self.old.acts.items }
+    {
+        if self.marks.len() == self.marks.capacity() {
+            self.marks.try_reserve(1)?;
+        }
+        self.marks.push_reserved(at);
+        Ok(())
+    }
+
+    /// The bytes from the one mark up to a place go to the output, and that is marked.
+    #[inline(always)]
+    pub fn hand_on(&mut self, to: usize) -> Result<(), Memory>
+        requires { length self.old.marks.items ≡ 1 }
+        ensures { OnOk result ((m : ℕ) → self.old.marks.items ≡ m ∷ []
+            → (self.new.acts.items ≡ self.old.acts.items ++ Text m to ∷ [])
+            × (self.new.marks.items ≡ to ∷ [])) }
+    {
+        let from = self.marks[0];
+        self.acts.push(LeapAct::Text { from, to })?;
+        self.marks[0] = to;
+        Ok(())
     }
 
     /// Notes what goes to the output at the byte after `at` others, and keeps some points as marks.

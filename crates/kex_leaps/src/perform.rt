@@ -1,12 +1,12 @@
 // What is done along a leap is done by the actor.
 
-ghost use Rattle.std.specs.Prelude.{◌≡◌, ◌<◌, ◌≤◌, ◌+◌, ◌-◌, OnOk, IsTrue, length};
+ghost use Rattle.std.specs.Prelude.{◌≡◌, ◌<◌, ◌≤◌, ◌+◌, ◌-◌, OnOk, IsTrue, length, take};
 ghost use Rattle.kex_machine.specs.Nodes.{node_moves};
 ghost use Rattle.kex_action.specs.Actions.{after_move};
 ghost use Rattle.kex_action.specs.Sheets.{IsSheet, IsAsLong, Writes, state_with};
 ghost use Rattle.kex_held.specs.Acts.{after_act, after_acts};
 ghost use Rattle.kex_held.specs.Slices.{slice_between};
-ghost use Rattle.kex_leaps.specs.Leaps.{act_in, acts_in, IsActWithin, AreActsWithin};
+ghost use Rattle.kex_leaps.specs.Leaps.{act_in, acts_in, IsActWithin, AreActsWithin, DoesAll};
 
 use crate::act::LeapAct;
 use crate::copy::{AT_ONCE, copy_at_once};
@@ -141,6 +141,40 @@ fn perform_one(
     }
 }
 
+// What the first of some acts do, and how many those are.
+#[derive(Clone, Copy)]
+struct FirstActs {
+    act: LeapAct,
+    count: usize,
+}
+
+// The first acts that are one: a text and those that begin where it ends, or the first act alone.
+#[inline(always)]
+fn join(acts: &[LeapAct]) -> FirstActs
+    requires some { 0 < length acts.now }
+    ensures does { DoesAll (take result.count acts.now) result.act }
+    ensures some { 0 < result.count }
+    ensures within { result.count ≤ length acts.now }
+{
+    let LeapAct::Text { from, to } = acts[0] else {
+        return FirstActs {
+            act: acts[0],
+            count: 1,
+        };
+    };
+    let mut end = to;
+    let mut count = 1;
+    'acts: while count < acts.len() {
+        match acts[count] {
+            LeapAct::Text { from: next, to } if next == end => end = to,
+            _ => break,
+        }
+        count += 1;
+    }
+    let act = LeapAct::Text { from, to: end };
+    FirstActs { act, count }
+}
+
 /// Does acts of a piece, one after another, on a sheet, and goes by a node where that has to be
 /// handed on meanwhile.
 pub fn perform(
@@ -164,8 +198,11 @@ pub fn perform(
         × (actor.new.refused ≡ actor.old.refused) }
     ensures usable { OnOk result (IsTrue actor.new.usable) }
 {
-    'acts: for one in acts {
-        perform_one(node, piece, *one, actor, sheet, out)?;
+    let mut at = 0;
+    'acts: while at < acts.len() {
+        let next = join(&acts[at..]);
+        perform_one(node, piece, next.act, actor, sheet, out)?;
+        at += next.count;
     }
     Ok(())
 }

@@ -1,10 +1,11 @@
 // How rows of held text are gone along, over one leap or several that follow one another.
 
-ghost use Rattle.std.specs.Prelude.{◌≡◌, ◌<◌, ◌≤◌, ◌++◌, ℕ, List, [], Some, IfOk, IfSome, length};
-ghost use Rattle.std.specs.Prelude.{slice_get, take};
+ghost use Rattle.std.specs.Prelude.{◌≡◌, ◌<◌, ◌≤◌, ◌-◌, ◌++◌, ◌∷◌, ℕ, List, [], Some, IfOk};
+ghost use Rattle.std.specs.Prelude.{IfSome, length, slice_get, take};
 ghost use Rattle.kex_held.specs.HeldRows.{HeldRow};
 ghost use Rattle.kex_held_rows.specs.Books.{rows_in, bare_row, KeepsRows};
 ghost use Rattle.kex_leaps.specs.declared.act.LeapAct.{LeapAct};
+ghost use Rattle.kex_leaps.specs.declared.act.LeapAct.TheVariants.{Text};
 ghost use Rattle.kex_leaps.specs.declared.scan.ScanEnd.{ScanEnd};
 ghost use Rattle.kex_leaps.specs.Leaps.{acts_in, AreActsWithin, IsLeap};
 ghost use Rattle.kex_leaps.specs.Leaps.{HasScanned};
@@ -90,6 +91,33 @@ fn stay(ledger: &RowLedger, table: &Table, row: u32, piece: &[u8], from: usize) 
     at
 }
 
+// How far a row hands on what it holds along a piece, byte by byte. The last byte is held then.
+#[inline(always)]
+fn hand_on(ledger: &RowLedger, table: &Table, row: u32, piece: &[u8], from: usize) -> usize
+    requires table { table.now ≡ ledger.now.table }
+    requires row { row < length ledger.now.rows }
+    requires some { 0 < from }
+    requires from { from ≤ length piece.now }
+    ensures behind { from ≤ result }
+    ensures within { result ≤ length piece.now }
+    ensures hands { (q n : ℕ) (acts : List LeapAct) (first : ℕ) → first < from
+        → HasScanned ledger.now.table ledger.now.machine.nodes (rows_in ledger.now.rows) q n
+        piece.now from row ((from - 1) ∷ []) (acts ++ Text first (from - 1) ∷ [])
+        → HasScanned ledger.now.table ledger.now.machine.nodes (rows_in ledger.now.rows) q n
+        piece.now result row ((result - 1) ∷ []) (acts ++ Text first (result - 1) ∷ []) }
+{
+    let partition = table.partition();
+    let mut at = from;
+    'bytes: while at < piece.len() {
+        let class = partition.class_of(piece[at]);
+        match ledger.note_at(row as usize, class) {
+            RowNote::HandsOn => at += 1,
+            _ => return at,
+        }
+    }
+    at
+}
+
 // Why a scan ends at a note by which it can't go on.
 fn end_at(note: &RowNote) -> ScanEnd
     ensures { ¬ (result ≡ ScanEnd.Bare) }
@@ -135,6 +163,16 @@ pub fn scan_on(
         let class = partition.class_of(piece[at]);
         match ledger.note_at(row as usize, class) {
             RowNote::Stays => at = stay(ledger, table, row, piece, at + 1),
+            RowNote::HandsOn => {
+                let end = hand_on(ledger, table, row, piece, at + 1);
+                trace.hand_on(end - 1)?;
+                at = end;
+            }
+            RowNote::Marks(to) => {
+                trace.mark(at)?;
+                row = *to;
+                at += 1;
+            }
             RowNote::Goes(edge) => {
                 trace.take(edge, at)?;
                 row = edge.to();
@@ -177,6 +215,7 @@ fn leads_on(ledger: &RowLedger, table: &Table, row: u32, piece: &[u8], at: usize
     };
     let class = table.partition().class_of(*byte);
     match ledger.note_at(row as usize, class) {
+        RowNote::Marks(_) => true,
         RowNote::Goes(edge) => !edge.is_bare(),
         _ => false,
     }
