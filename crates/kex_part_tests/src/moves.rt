@@ -33,7 +33,8 @@ fn run(alloc: Global, text: &str, piece: &[u8]) -> Result<(usize, Vec<u8>), Fail
 }
 
 // Bytes alone and nothing in runs, a text with the byte in it, registers of the program, and text
-// that is held back up to a byte that settles what goes before it.
+// that is held back up to a byte that settles what goes before it. Of the last two, one holds each
+// byte up to the next, and one has several edges that begin with the same side of a fork.
 const RUNS: &str = r#"
 main := /[a-z;]*/ => one;two;three; => one;two;three;
 main := (~/[a-z]/ | /;/)* => one;two;three; => ;;;
@@ -43,6 +44,8 @@ main := ("1 " /[a-z]*!/ | "0 " /[a-z]*;/)* => ab;cd!;x! => 0 ab;1 cd!0 ;1 x!
 main := (/[0-9]{1,3}/ ("," /[0-9]{3}/)* /;/)* => 1;1234;12345;1234567; => 1;1,234;12,345;1,234,567;
 main := (~/<[a-z]*>/ | /[<a-z;]/)* => a<b>c;<d; => ac;<d;
 main := (a@/[a-z]*/ ~/=/ "[" !a "]" /;/ | /[a-z]*;/)* => ab=;cd;ef=; => [ab];cd;[ef];
+main := (/[a-z]([a-z ]*[a-z])?/ ~/ *;/ ".")* => ab cd  ;x;y z; => ab cd.x.y z.
+main := (/(2[0-4][0-9]|1[0-9]{2}|[1-9]?[0-9]),/ ~/(2[0-4][0-9]|1[0-9]{2}|[1-9]?[0-9]);/ "0;" | /[0-9,]+;/)* => 203,113;256,1; => 203,0;256,1;
 "#;
 
 #[test]
