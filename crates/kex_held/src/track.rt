@@ -233,7 +233,7 @@ impl<'t> ListTracker<'t> {
         let (mut starts, taken) = by_taken(self.alloc, known, lists, &able, parts)?;
         let start = match start_of(self.texts, parts) {
             Some(start) => Some(start),
-            None if starts.len() == 1 => None,
+            None if able.len() == 1 => None,
             None => upper_end(self.alloc, self.table, machine, known, place)?,
         };
         if let Some(start) = start {

@@ -153,7 +153,7 @@ fn put_latest(known: &[Tracked], nodes: &mut Vec<u32>) -> Result<(), Memory> {
 }
 
 /// The nodes at which parts may begin, apart by whether an earlier list begins there as they do:
-/// edges of the path tree begin apart, in preorder. The likeliest is first.
+/// mostly edges of the path tree begin apart, in preorder. The likeliest is first.
 pub fn by_taken(
     alloc: Global,
     known: &[Tracked],
