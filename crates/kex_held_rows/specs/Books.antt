@@ -52,7 +52,7 @@ abbrev pub MarksAtRow : Transducer → List MNode → HeldRow → ℕ → HeldRo
 MarksAtRow t nodes r class to = (keep : List ℕ) × AreFirst keep × (length keep ≡ r.marks + 1)
     × IsLearnt t nodes r class (record { to = to; outs = []; keep = keep })
 
--- what a note of an edge from the row of a number says of it
+-- what a note of an edge from the row of a number, with that many marks, says of it
 abbrev pub IsNoteOf : ℕ → ℕ → NumberedEdge → RowNote → Type 0
 IsNoteOf number marks e Unknown = ⊥
 IsNoteOf number marks e Plain = ⊥

@@ -133,8 +133,8 @@ pub enum RowNote {
     /// The row stays, with one mark: the bytes from there up to this one go to the output, and this
     /// one is marked.
     HandsOn,
-    /// It goes to the row of this number: nothing goes to the output, the marks stay, and the place
-    /// of the byte is one more.
+    /// It goes to the row of this number: nothing goes to the output, the marks stay, and the byte
+    /// is one mark more.
     Marks(u32),
     /// It goes along an edge.
     Goes(KnownEdge),

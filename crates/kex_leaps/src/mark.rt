@@ -106,7 +106,7 @@ fn keep_front(marks: &mut Vec<usize>, at: usize, edge: &KnownEdge) -> Result<boo
 {
     let keep = edge.keep();
     let firsts = edge.firsts();
-    // All marks and the place of the byte, as at most edges.
+    // All marks and the place of the byte, as at most edges that write.
     if firsts == keep.len() && firsts == marks.len() + 1 {
         marks.push(at)?;
         return Ok(true);
