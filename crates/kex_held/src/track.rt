@@ -6,7 +6,7 @@ ghost use Rattle.kex_held.specs.Tracks.{TracksAny, GoesBy, StepsBy, own_all};
 
 use crate::item::RegisterText;
 use crate::link::Link;
-use crate::upper::{Place, able_nodes, by_taken, start_of, upper_end};
+use crate::upper::{Place, Starts, able_nodes, by_taken, start_of, upper_end};
 use crate::walk::learn_to_rest;
 use kex_action::action::Action;
 use kex_code::memory::Memory;
@@ -222,25 +222,22 @@ impl<'t> ListTracker<'t> {
         known: &[Tracked],
         forks: &[u32],
         lists: &[Parts],
+        parts: &[Part],
         place: Place,
     ) -> Result<Vec<u32>, Memory> {
-        let Some(list) = lists.get(known.len()) else {
-            return Ok(Vec::new(self.alloc));
-        };
-        let parts = list.as_slice();
         let machine = self.machine;
         let able = able_nodes(self.alloc, machine, self.texts, forks, parts, self.byte)?;
-        let (mut starts, taken) = by_taken(self.alloc, known, lists, &able, parts)?;
+        let Starts { mut free, taken } = by_taken(self.alloc, known, lists, &able, parts)?;
         let start = match start_of(self.texts, parts) {
             Some(start) => Some(start),
             None if able.len() == 1 => None,
             None => upper_end(self.alloc, self.table, machine, known, place)?,
         };
         if let Some(start) = start {
-            starts.insert(0, start)?;
+            free.insert(0, start)?;
         }
-        starts.extend_from_slice(&taken)?;
-        Ok(starts)
+        free.extend_from_slice(&taken)?;
+        Ok(free)
     }
 
     /// The lists of parts of new registers of a state, each from the upper end of its edge of the
@@ -275,7 +272,7 @@ impl<'t> ListTracker<'t> {
                 register,
             };
             let list = parts.as_slice();
-            let starts = self.starts_of(&all, &forks, lists, place)?;
+            let starts = self.starts_of(&all, &forks, lists, list, place)?;
             let Some(tracked) = track_from_any(alloc, machine, self.texts, &starts, list)? else {
                 return Ok(None);
             };

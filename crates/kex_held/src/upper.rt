@@ -152,15 +152,23 @@ fn put_latest(known: &[Tracked], nodes: &mut Vec<u32>) -> Result<(), Memory> {
     Ok(())
 }
 
-/// The nodes at which parts may begin, apart by whether an earlier list begins there as they do:
-/// mostly edges of the path tree begin apart, in preorder. The likeliest is first.
+/// Nodes at which a list may begin, the likeliest first: those at which no earlier list begins with
+/// the same part, and the others.
+#[derive(Drop)]
+pub struct Starts {
+    pub free: Vec<u32>,
+    pub taken: Vec<u32>,
+}
+
+/// The nodes at which parts may begin, by whether an earlier list begins there as they do: mostly
+/// edges of the path tree begin apart, in preorder.
 pub fn by_taken(
     alloc: Global,
     known: &[Tracked],
     lists: &[Parts],
     nodes: &[u32],
     parts: &[Part],
-) -> Result<(Vec<u32>, Vec<u32>), Memory> {
+) -> Result<Starts, Memory> {
     let mut free = Vec::new(alloc);
     let mut taken = Vec::new(alloc);
     for node in nodes {
@@ -173,7 +181,7 @@ pub fn by_taken(
     if free.len() > 1 && parts.first() == Some(&Part::Put(Symbol::R)) {
         put_latest(known, &mut free)?;
     }
-    Ok((free, taken))
+    Ok(Starts { free, taken })
 }
 
 /// The node at which a list begins that goes on with an old register.
