@@ -8,7 +8,7 @@ use Rattle.std.proofs.lemmas.Nat.{div-mul-add, pow_pos}
 use Rattle.kex_moves.specs.declared.edge.Edge.{Edge}
 use Rattle.kex_moves.specs.declared.edge.EdgeKind.TheVariants.{Keep, Drop, Unknown}
 use Rattle.kex_moves.specs.declared.edges.Pair.{Pair}
-use Rattle.kex_moves.specs.Edges.{IsAtRow}
+use Rattle.kex_moves.specs.Edges.{IsUnlearnt, IsAtRow}
 use Rattle.kex_moves.proofs.KnownEdges.{front_of, behind_of, parts_of}
 use Rattle.kex_moves.specs.Known.{Known, IsEdge, IsOrdered, IsPairRow, Widens}
 
@@ -18,16 +18,16 @@ widens_none k state node = record {
   edges = [];
   wider = ap₂ (λ (p : List Pair) (e : List Edge). record { classes = k.classes; width = k.width; shift = k.shift; pairs = p; edges = e; text = k.text; acts = k.acts }) (sym (append-nil k.pairs)) (sym (append-nil k.edges));
   of = All-nil (λ (p : Pair). (p.state ≡ state) × (p.node ≡ node));
-  unknown = All-nil (λ (e : Edge). e.kind ≡ Unknown);
+  unknown = All-nil IsUnlearnt;
 }
 
 edge_stands : (k k' : Known) (more : List Edge) (e : Edge) → k' ≡ record { classes = k.classes; width = k.width; shift = k.shift; pairs = k'.pairs; edges = k.edges ++ more; text = k.text; acts = k.acts } → IsEdge k e → IsEdge k' e
-edge_stands k k' more e f h = subst (λ x. IsEdge x e) (sym f) (record { next = λ known. omega (arith, h.next known, length-append k.edges more); begins = h.begins; room = h.room; acts = h.acts })
+edge_stands k k' more e f h = subst (λ x. IsEdge x e) (sym f) (record { next = λ known. omega (arith, h.next known, length-append k.edges more); begins = h.begins; room = h.room; acts = h.acts; alone = h.alone })
 
-silent : (k : Known) (e : Edge) → e.kind ≡ Unknown → IsEdge k e
-silent k e h = record { next = λ known. cc; begins = λ known. cc; room = λ written. cc; acts = λ acts. cc }
+silent : (k : Known) (e : Edge) → IsUnlearnt e → IsEdge k e
+silent k e h = let is = h.0 in let single = h.1 in record { next = λ known. cc; begins = λ known. cc; room = λ written. cc; acts = λ acts. cc; alone = λ alone. cc }
 
-pub ordered_wider : (k : Known) (p : Pair) (more : List Edge) → IsOrdered k → length more ≡ k.width → All (λ (e : Edge). e.kind ≡ Unknown) more → IsOrdered (record { classes = k.classes; width = k.width; shift = k.shift; pairs = k.pairs ++ p ∷ []; edges = k.edges ++ more; text = k.text; acts = k.acts })
+pub ordered_wider : (k : Known) (p : Pair) (more : List Edge) → IsOrdered k → length more ≡ k.width → All IsUnlearnt more → IsOrdered (record { classes = k.classes; width = k.width; shift = k.shift; pairs = k.pairs ++ p ∷ []; edges = k.edges ++ more; text = k.text; acts = k.acts })
 ordered_wider k p more h e unknown =
     let wide : Known = record { classes = k.classes; width = k.width; shift = k.shift; pairs = k.pairs ++ p ∷ []; edges = k.edges ++ more; text = k.text; acts = k.acts } in
     record {
@@ -38,7 +38,7 @@ ordered_wider k p more h e unknown =
       classes = h.classes;
       rows = length-append k.edges more ∙ ap₂ (λ (a b : ℕ). a + b) h.rows e ∙ one_more (length k.pairs) k.width ∙ ap (λ n. n * k.width) (sym (length-append k.pairs (p ∷ [])));
       edges = All-append (IsEdge wide) k.edges more (λ i d l. edge_stands k wide more (get_or k.edges i d) refl (h.edges i d l)) (λ i d l. silent wide (get_or more i d) (unknown i d l));
-      back = λ number class e lt at. ⊎_elim (λ l. h.back number class e lt (sym (front_of k.edges more (number * k.width + class) l) ∙ at)) (λ l. none (number * k.width) e (behind_of (λ (e : Edge). e.kind ≡ Unknown) k.edges more (number * k.width + class) e l unknown at)) (parts_of (number * k.width + class) (length k.edges));
+      back = λ number class e lt at. ⊎_elim (λ l. h.back number class e lt (sym (front_of k.edges more (number * k.width + class) l) ∙ at)) (λ l. none (number * k.width) e (behind_of IsUnlearnt k.edges more (number * k.width + class) e l unknown at).0) (parts_of (number * k.width + class) (length k.edges));
     }
   where
     none : (row : ℕ) (e : Edge) → e.kind ≡ Unknown → IsAtRow row e

@@ -20,7 +20,7 @@ use Rattle.kex_moves.specs.declared.edge.Edge.{Edge}
 use Rattle.kex_moves.specs.declared.edge.EdgeKind.{EdgeKind}
 use Rattle.kex_moves.specs.declared.edge.EdgeKind.TheVariants.{Keep, Drop, Text, Acts, Opens, Plain, Unknown}
 use Rattle.kex_moves.specs.declared.edges.Pair.{Pair}
-use Rattle.kex_moves.specs.Edges.{writes, is_written, is_known, has_acts, HasRoom, IsAtRow}
+use Rattle.kex_moves.specs.Edges.{writes, is_written, is_known, has_acts, IsUnlearnt, IsSilent, HasRoom, IsAtRow}
 use Rattle.kex_moves.specs.Runs.{HasEdgeRow, LeadsBack, HasRoomBelow, AreEdgesWithin}
 use Rattle.kex_moves.specs.Trails.{EdgesLeadBelow}
 use Rattle.kex_held.specs.Walks.{code_with_byte, TakesCode, Learns}
@@ -74,6 +74,7 @@ rows_within k o = record {
       let begins = (o.edges i d lt).begins (known_if e.kind written) in
       (has_row k e.next o (leads_below k o i d lt written), back_in k e.next begins.0 o begins.1);
   room = rooms_below k o;
+  alone = λ i d lt. (o.edges i d lt).alone;
 }
 
 pub front_of : {A : Type 0} (xs ys : List A) (i : ℕ) → i < length xs → slice_get (xs ++ ys) i ≡ slice_get xs i
@@ -123,7 +124,7 @@ wide k pairs edges = record { classes = k.classes; width = k.width; shift = k.sh
 rows_wide : (k : Known) (pairs : List Pair) (edges : List Edge) (row : ℕ) (p : Pair) → IsPairRow k row p → IsPairRow (wide k pairs edges) row p
 rows_wide k pairs edges row p r = record { number = r.number; at = some_front k.pairs pairs r.number p r.at; begins = r.begins }
 
-right_wide : (t : Transducer) (nodes : List MNode) (k : Known) (pairs : List Pair) (edges : List Edge) → IsOrdered k → All (λ (e : Edge). e.kind ≡ Unknown) edges → AreRight t nodes k → AreRight t nodes (wide k pairs edges)
+right_wide : (t : Transducer) (nodes : List MNode) (k : Known) (pairs : List Pair) (edges : List Edge) → IsOrdered k → All IsUnlearnt edges → AreRight t nodes k → AreRight t nodes (wide k pairs edges)
 right_wide t nodes k pairs edges o unknown right number class p e at lt is known = ⊎_elim old new (parts_of number (length k.pairs))
   where
     old : number < length k.pairs → IsRight t nodes (wide k pairs edges) p class e
@@ -136,8 +137,8 @@ right_wide t nodes k pairs edges o unknown right number class p e at lt is known
     new : length k.pairs ≤ number → IsRight t nodes (wide k pairs edges) p class e
     new h =
         let more : length k.pairs * k.width ≤ number * k.width = mul-le-mul_right k.width h in
-        let none : e.kind ≡ Unknown = behind_of (λ (e : Edge). e.kind ≡ Unknown) k.edges edges (number * k.width + class) e (omega (arith, o.rows, more)) unknown is in
-        let said : is_known e.kind ≡ false = ap is_known none in
+        let none = behind_of IsUnlearnt k.edges edges (number * k.width + class) e (omega (arith, o.rows, more)) unknown is in
+        let said : is_known e.kind ≡ false = ap is_known none.0 in
         let no : true ≡ false = sym known ∙ said in
         cc
 
@@ -211,23 +212,23 @@ pub led : (nodes : List MNode) (mid new : Known) (state node next : ℕ) (action
 led nodes mid new state node next actions e o r l s =
     let row = λ (known : is_known e.kind ≡ true). subst (λ x. IsPairRow new x r.0) (sym (s.goes known)) (subst (λ k. IsPairRow k next r.0) (sym l.longer) (rows_long mid l.text l.acts next r.0 r.1)) in
     record {
-      edge = record { next = λ known. row_fits new e.next r.0 o (row known); begins = λ known. ((row known).number, (row known).begins); room = s.room; acts = s.acts };
+      edge = record { next = λ known. row_fits new e.next r.0 o (row known); begins = λ known. ((row known).number, (row known).begins); room = s.room; acts = s.acts; alone = s.alone };
       row = λ known. (r.0, row known, r.2, r.3);
       does = s.does;
       opens = s.opens;
     }
 
 -- an edge that says nothing leads nowhere
-pub led_silent : (nodes : List MNode) (k : Known) (state node : ℕ) (actions : List Action) (e : Edge) → is_known e.kind ≡ false → IsLed nodes k state node actions e
+pub led_silent : (nodes : List MNode) (k : Known) (state node : ℕ) (actions : List Action) (e : Edge) → IsSilent e → IsLed nodes k state node actions e
 led_silent nodes k state node actions e silent = record {
-  edge = record { next = λ known. absurd (never known); begins = λ known. absurd (never known); room = λ written. absurd (never (known_if e.kind written)); acts = λ acts. absurd (never (known_acts e.kind acts)) };
+  edge = record { next = λ known. absurd (never known); begins = λ known. absurd (never known); room = λ written. absurd (never (known_if e.kind written)); acts = λ acts. absurd (never (known_acts e.kind acts)); alone = λ alone. let clash : true ≡ false = sym alone ∙ silent.1 in cc };
   row = λ known. absurd (never known);
   does = λ known. absurd (never known);
   opens = λ is. absurd (never (ap is_known is));
 }
   where
     never : is_known e.kind ≡ true → ⊥
-    never known = let clash : true ≡ false = sym known ∙ silent in cc
+    never known = let clash : true ≡ false = sym known ∙ silent.0 in cc
 
     known_acts : (k : EdgeKind) → has_acts k ≡ true → is_known k ≡ true
     known_acts Keep h = cc
@@ -277,7 +278,7 @@ makes_at_row : (nodes : List MNode) (k : Known) (e : Edge) (b : ℕ) (s : Acting
 makes_at_row nodes k e b s w = ap (λ x. cond x (with_bytes (writes k.text e b) s) (after_actions nodes b (take e.adds (drop e.from k.acts)) s)) w
 
 abbrev as_text : Edge → Edge
-as_text e = record { next = e.next; from = e.from; byte_at = e.byte_at; adds = e.adds; kind = Text }
+as_text e = record { next = e.next; from = e.from; byte_at = e.byte_at; adds = e.adds; alone = e.alone; kind = Text }
 
 pub right_at_row : (t : Transducer) (nodes : List MNode) (k : Known) (p : Pair) (class : ℕ) (e x : Edge) → (x ≡ e) ⊎ ((is_written e.kind ≡ true) × (x ≡ as_text e)) → (is_known e.kind ≡ true → IsRight t nodes k p class e) → is_known x.kind ≡ true → IsRight t nodes k p class x
 right_at_row t nodes k p class e x (inl h) right known = subst (λ y. IsRight t nodes k p class y) (sym h) (right (ap (λ (y : Edge). is_known y.kind) (sym h) ∙ known))

@@ -1,6 +1,5 @@
 -- Along a leap the table goes on, and the actor does what it does.
-use Rattle.std.proofs.Common.{◌≡◌, ℕ, List, subst, sym, refl}
-use Rattle.kex_code.specs.declared.symbol.Symbol.{Symbol}
+use Rattle.std.proofs.Common.{◌≡◌, ℕ, List, subst, sym}
 use Rattle.kex_action.specs.Actors.{Position}
 use Rattle.kex_action.specs.declared.sheet.Sheet.{Sheet}
 use Rattle.kex_action.specs.Sheets.{state_with}
@@ -10,7 +9,7 @@ use Rattle.kex_held.specs.Acts.{Act, after_acts}
 use Rattle.kex_leaps.specs.Leaps.{IsLeap}
 use Rattle.kex_moves.specs.declared.edges.Pair.{Pair}
 use Rattle.kex_moves.specs.Known.{Known, IsPairRow, HasRowFor}
-use Rattle.kex_moves.specs.Along.{ReachedOn, with_sheet, written_with}
+use Rattle.kex_moves.specs.Along.{ReachedOn}
 use Rattle.kex_moves.proofs.SheetRuns.{moved}
 
 -- from the row of a pair to that of a state and a node

@@ -97,28 +97,30 @@ settles_written nodes k next p xs e n w room h = record {
   goes = λ known. n;
   room = λ written. room;
   acts = λ acts. absurd (no_written e.kind acts w);
+  alone = λ alone. w;
   does = λ known b s. ap (λ l. with_bytes l s) (sym (h b)) ∙ sym (ap (λ x. cond x (with_bytes (writes k.text e b) s) (after_actions nodes b (take e.adds (drop e.from k.acts)) s)) w);
   opens = λ opens. absurd (no_opens e.kind w opens);
 }
 
-pub settles_short : (nodes : List MNode) (k : Known) (next p : ℕ) (xs : List ℕ) (e : Edge) → 16 ≤ length k.text → HasPlace xs p → e.next ≡ next → e.from ≡ 0 → e.byte_at ≡ p → e.adds ≡ length xs → is_written e.kind ≡ true → (e.kind ≡ Text → ⊥) → (e.kind ≡ Keep → (p ≡ 0) × (length xs ≡ 1)) → (e.kind ≡ Drop → length xs ≡ 0) → Settles nodes k next (λ b. with_bytes (set xs p b)) e
-settles_short nodes k next p xs e text place n f g l w none keeps drops =
-    settles_written nodes k next p xs e n w (record { text = omega arith; byte_at = omega (arith, place_small xs p place); adds = omega (arith, place.count); keeps = λ q. (g ∙ (keeps q).0, l ∙ (keeps q).1); drops = λ q. l ∙ drops q }) (λ b. short_written k.text xs p b e e.kind refl text w none keeps drops f g l)
+pub settles_short : (nodes : List MNode) (k : Known) (next p : ℕ) (xs : List ℕ) (e : Edge) → 16 ≤ length k.text → HasPlace xs p → e.next ≡ next → e.from ≡ 0 → e.byte_at ≡ p → e.adds ≡ length xs → is_written e.kind ≡ true → (e.kind ≡ Text → ⊥) → (e.kind ≡ Keep → (p ≡ 0) × (length xs ≡ 1)) → (e.kind ≡ Drop → length xs ≡ 0) → (e.alone ≡ true → e.kind ≡ Keep) → (e.kind ≡ Keep → e.alone ≡ true) → Settles nodes k next (λ b. with_bytes (set xs p b)) e
+settles_short nodes k next p xs e text place n f g l w none keeps drops alone keep =
+    settles_written nodes k next p xs e n w (record { text = omega arith; byte_at = omega (arith, place_small xs p place); adds = omega (arith, place.count); keeps = keep; drops = λ q. l ∙ drops q; alone = λ q. let is = keeps (alone q) in (g ∙ is.0, l ∙ is.1) }) (λ b. short_written k.text xs p b e e.kind refl text w none keeps drops f g l)
 
-pub settles_text : (nodes : List MNode) (k : Known) (old : List ℕ) (next p : ℕ) (xs : List ℕ) (e : Edge) → k.text ≡ (old ++ xs) ++ replicate 16 0 → HasPlace xs p → e.next ≡ next → e.from ≡ length old → e.byte_at ≡ p → e.adds ≡ length xs → e.kind ≡ Text → Settles nodes k next (λ b. with_bytes (set xs p b)) e
-settles_text nodes k old next p xs e is place n f g l text =
+pub settles_text : (nodes : List MNode) (k : Known) (old : List ℕ) (next p : ℕ) (xs : List ℕ) (e : Edge) → k.text ≡ (old ++ xs) ++ replicate 16 0 → HasPlace xs p → e.next ≡ next → e.from ≡ length old → e.byte_at ≡ p → e.adds ≡ length xs → e.kind ≡ Text → e.alone ≡ false → Settles nodes k next (λ b. with_bytes (set xs p b)) e
+settles_text nodes k old next p xs e is place n f g l text others =
     let long : length k.text ≡ length old + length xs + 16 = ap length is ∙ omega (arith, length-append (old ++ xs) (replicate 16 0), length-append old xs) in
-    settles_written nodes k next p xs e n (ap is_written text) (record { text = omega arith; byte_at = omega (arith, place_small xs p place); adds = omega (arith, place.count); keeps = λ q. cc; drops = λ q. cc }) (λ b. text_written old xs (replicate 16 0) k.text p b e is refl place.count f g l)
+    settles_written nodes k next p xs e n (ap is_written text) (record { text = omega arith; byte_at = omega (arith, place_small xs p place); adds = omega (arith, place.count); keeps = λ q. cc; drops = λ q. cc; alone = λ q. cc }) (λ b. text_written old xs (replicate 16 0) k.text p b e is refl place.count f g l)
 
 -- an edge at which actions are done settles
-pub settles_acts : (nodes : List MNode) (k : Known) (old actions : List Action) (next : ℕ) (e : Edge) → k.acts ≡ old ++ actions → e.next ≡ next → e.from ≡ length old → e.adds ≡ length actions → has_acts e.kind ≡ true → (e.kind ≡ Opens → (b : ℕ) (s : ActingState) → after_actions nodes b actions s ≡ with_buffer (b ∷ []) s) → Settles nodes k next (λ b. after_actions nodes b actions) e
-settles_acts nodes k old actions next e is n f l acts opens =
+pub settles_acts : (nodes : List MNode) (k : Known) (old actions : List Action) (next : ℕ) (e : Edge) → k.acts ≡ old ++ actions → e.next ≡ next → e.from ≡ length old → e.adds ≡ length actions → has_acts e.kind ≡ true → e.alone ≡ false → (e.kind ≡ Opens → (b : ℕ) (s : ActingState) → after_actions nodes b actions s ≡ with_buffer (b ∷ []) s) → Settles nodes k next (λ b. after_actions nodes b actions) e
+settles_acts nodes k old actions next e is n f l acts others opens =
     let same : take e.adds (drop e.from k.acts) ≡ actions = ap₂ (λ i m. take m (drop i k.acts)) f l ∙ ap (λ q. take (length actions) (drop (length old) q)) is ∙ ap (take (length actions)) (drop_at old actions (length old) refl) ∙ take_all (length actions) actions (omega arith) in
     let does = λ (b : ℕ) (s : ActingState). ap (λ q. after_actions nodes b q s) (sym same) ∙ sym (ap (λ x. cond x (with_bytes (writes k.text e b) s) (after_actions nodes b (take e.adds (drop e.from k.acts)) s)) (unwritten e.kind acts)) in
     record {
       goes = λ known. n;
       room = λ written. absurd (no_written e.kind acts written);
       acts = λ q. omega (arith, ap length is, length-append old actions);
+      alone = λ q. let clash : true ≡ false = sym q ∙ others in cc;
       does = λ known b s. does b s;
       opens = λ q b s. sym (does b s) ∙ opens q b s;
     }
@@ -134,7 +136,7 @@ lengthens_acts k acts more e = record { text = []; acts = more; longer = ap₂ (
 
 -- an edge that settles what is the same settles
 pub settles_same : (nodes : List MNode) (k : Known) (next : ℕ) (f g : ℕ → ActingState → ActingState) (e : Edge) → ((b : ℕ) (s : ActingState) → g b s ≡ f b s) → Settles nodes k next f e → Settles nodes k next g e
-settles_same nodes k next f g e same h = record { goes = h.goes; room = h.room; acts = h.acts; does = λ known b s. same b s ∙ h.does known b s; opens = h.opens }
+settles_same nodes k next f g e same h = record { goes = h.goes; room = h.room; acts = h.acts; alone = h.alone; does = λ known b s. same b s ∙ h.does known b s; opens = h.opens }
 
 pub map_ok : {A E : Type 0} (P Q : A → Type 0) (r : Result A E) → ((a : A) → P a → Q a) → IfOk r P → IfOk r Q
 map_ok P Q (Ok a) f h = f a h

@@ -38,13 +38,23 @@ has_acts Opens = true
 has_acts Plain = false
 has_acts Unknown = false
 
--- its text lies within, no more counts than is copied, and the byte alone is what is kept
+-- nothing is learnt of it
+abbrev pub IsUnlearnt : Edge → Type 0
+IsUnlearnt e = (e.kind ≡ Unknown) × (e.alone ≡ false)
+
+-- it says nothing
+abbrev pub IsSilent : Edge → Type 0
+IsSilent e = (is_known e.kind ≡ false) × (e.alone ≡ false)
+
+-- its text lies within, no more counts than is copied, what is kept is alone, and what is alone is
+-- the byte
 pub record HasRoom (length : ℕ) (e : Edge) : Type 0 where
   pub text : e.from + 16 ≤ length
   pub byte_at : e.byte_at ≤ 16
   pub adds : e.adds ≤ 16
-  pub keeps : e.kind ≡ Keep → (e.byte_at ≡ 0) × (e.adds ≡ 1)
+  pub keeps : e.kind ≡ Keep → e.alone ≡ true
   pub drops : e.kind ≡ Drop → e.adds ≡ 0
+  pub alone : e.alone ≡ true → (e.byte_at ≡ 0) × (e.adds ≡ 1)
 
 -- an edge of a row leads back to it where it keeps or drops
 pub record IsAtRow (row : ℕ) (e : Edge) : Type 0 where

@@ -12,9 +12,10 @@ use Rattle.kex_action.specs.Sheets.{with_buffer}
 use Rattle.kex_sst.specs.declared.table.Transition.{Transition}
 use Rattle.kex_sst.specs.Tables.{Transducer, transition_of}
 use Rattle.kex_moves.specs.declared.edge.Edge.{Edge}
-use Rattle.kex_moves.specs.declared.edge.EdgeKind.TheVariants.{Opens, Unknown}
+use Rattle.kex_moves.specs.declared.edge.EdgeKind.TheVariants.{Opens}
 use Rattle.kex_moves.specs.declared.edges.Pair.{Pair}
-use Rattle.kex_moves.specs.Edges.{writes, is_written, is_known, has_acts, HasRoom, IsAtRow}
+use Rattle.kex_moves.specs.Edges.{writes, is_written, is_known, has_acts, IsUnlearnt}
+use Rattle.kex_moves.specs.Edges.{HasRoom, IsAtRow}
 use Rattle.kex_moves.specs.Runs.{Rows}
 use Rattle.kex_held.specs.Walks.{TakesCode, code_with_byte}
 
@@ -32,12 +33,13 @@ pub record Known : Type 0 where
 abbrev pub rows_of : Known → Rows
 rows_of k = record { classes = k.classes; edges = k.edges; text = k.text }
 
--- the edge leads to a row, and its text or its actions lie within
+-- the edge leads to a row, its text or its actions lie within, and it is written where it is alone
 pub record IsEdge (k : Known) (e : Edge) : Type 0 where
   pub next : is_known e.kind ≡ true → e.next + k.width ≤ length k.edges
   pub begins : is_known e.kind ≡ true → (number : ℕ) × (e.next ≡ number * k.width)
   pub room : is_written e.kind ≡ true → HasRoom (length k.text) e
   pub acts : has_acts e.kind ≡ true → e.from + e.adds ≤ length k.acts
+  pub alone : e.alone ≡ true → is_written e.kind ≡ true
 
 -- an edge that keeps or drops leads back to its row
 abbrev pub LeadBack : Known → Type 0
@@ -126,7 +128,7 @@ pub record Widens (old new : Known) (state node : ℕ) : Type 0 where
     acts = old.acts;
   }
   pub of : All (λ (p : Pair). (p.state ≡ state) × (p.node ≡ node)) pairs
-  pub unknown : All (λ (e : Edge). e.kind ≡ Unknown) edges
+  pub unknown : All IsUnlearnt edges
 
 -- texts and actions are added
 pub record Lengthens (old new : Known) : Type 0 where
@@ -169,11 +171,13 @@ pub record HasPlace (bytes : List ℕ) (p : ℕ) : Type 0 where
   pub count : length bytes ≤ 16
   pub place : (p < length bytes) ⊎ (p ≡ 16)
 
--- if the edge says anything, it leads to `next`, and makes f of a state
+-- if the edge says anything, it leads to `next`, and makes f of a state; and it is written where it
+-- is alone
 pub record Settles (nodes : List MNode) (k : Known) (next : ℕ) (f : ℕ → ActingState → ActingState)
     (e : Edge) : Type 0 where
   pub goes : is_known e.kind ≡ true → e.next ≡ next
   pub room : is_written e.kind ≡ true → HasRoom (length k.text) e
   pub acts : has_acts e.kind ≡ true → e.from + e.adds ≤ length k.acts
+  pub alone : e.alone ≡ true → is_written e.kind ≡ true
   pub does : is_known e.kind ≡ true → (b : ℕ) (s : ActingState) → f b s ≡ makes nodes k e b s
   pub opens : IsOpening nodes k e

@@ -1,6 +1,6 @@
 -- What the edges along a piece write, up to the first byte whose edge isn't written.
 use Rattle.std.specs.Prelude.{◌≡◌, ◌<◌, ◌+◌, ℕ, List, [], ◌∷◌, ◌++◌, Option, Some, None, All, true}
-use Rattle.std.specs.Prelude.{drop, get_or, length, if◌then◌else◌, slice_get, slice_index}
+use Rattle.std.specs.Prelude.{take, drop, get_or, length, if◌then◌else◌, slice_get, slice_index}
 use Rattle.kex_moves.specs.declared.edge.Edge.{Edge}
 use Rattle.kex_moves.specs.declared.edge.EdgeKind.{EdgeKind}
 use Rattle.kex_moves.specs.Edges.{writes, is_written, HasRoom, IsAtRow}
@@ -49,6 +49,12 @@ run_of t row (b ∷ bs) = on_step (record { written = []; row = row; left = b �
 abbrev pub run_from : Rows → List ℕ → List ℕ → ℕ → ℕ → RunStop
 run_from t piece xs row i = stop_behind xs (run_of t row (drop i piece))
 
+-- n bytes of a piece from number i on are written as they are, and from another row the run goes on
+-- as from the first
+abbrev pub CopiesAlong : Rows → List ℕ → ℕ → ℕ → ℕ → ℕ → Type 0
+CopiesAlong t piece from i to n = (xs : List ℕ)
+    → run_from t piece (xs ++ take n (drop i piece)) to (i + n) ≡ run_from t piece xs from i
+
 -- there is an edge for each byte
 abbrev pub HasEdgeRow : List ℕ → List Edge → ℕ → Type 0
 HasEdgeRow classes edges row = All (λ c. row + c < length edges) classes
@@ -81,8 +87,10 @@ StopsAt classes edges row at piece e = (at < length piece)
 abbrev pub HasRoomBelow : ℕ → List Edge → Type 0
 HasRoomBelow n edges = All (λ (e : Edge). is_written e.kind ≡ true → HasRoom n e) edges
 
--- where edges lead there is a row, and what they write lies within the text
+-- where edges lead there is a row, what they write lies within the text, and the byte alone is
+-- written where an edge is alone
 pub record AreEdgesWithin (t : Rows) : Type 0 where
   pub next : All (λ (e : Edge). is_written e.kind ≡ true → HasEdgeRow t.classes t.edges e.next
       × LeadsBack t.classes t.edges e.next) t.edges
   pub room : HasRoomBelow (length t.text) t.edges
+  pub alone : All (λ (e : Edge). e.alone ≡ true → is_written e.kind ≡ true) t.edges

@@ -18,7 +18,7 @@ use crate::edge::{Edge, EdgeKind};
 use crate::edges::Edges;
 use crate::leap::leap_at;
 use crate::learn::{learn_edge, row_for};
-use crate::run::Halt;
+use crate::run::{Halt, RowPoint};
 use kex_action::action::Action;
 use kex_action::actor::Actor;
 use kex_action::sheet::Sheet;
@@ -60,14 +60,8 @@ pub struct Ran {
     pub state: u32,
 }
 
-/// How many bytes or pieces were taken, and the row to which they lead.
-#[derive(Clone, Copy)]
-pub struct RowPoint {
-    pub count: usize,
-    pub row: usize,
-}
-
-/// The same, and whether no more can be taken from there.
+/// How many bytes or pieces were taken, the row to which they lead, and whether no more can be
+/// taken from there.
 #[derive(Clone, Copy)]
 pub struct RowStride {
     pub count: usize,

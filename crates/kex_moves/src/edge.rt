@@ -1,7 +1,7 @@
 // What is known of a pair of a state and a node at a class of bytes.
 
 /// What kind of edge it is. In a row the first two are kinds of edges that lead back to it, so that
-/// the kind alone says that the row stays.
+/// the kind by itself says that the row stays.
 #[derive(Clone, Copy, Debug, PartialEq, Eq)]
 pub enum EdgeKind {
     /// The byte alone is written, and the row stays.
@@ -22,13 +22,15 @@ pub enum EdgeKind {
 
 /// Where a byte leads: to the row that begins at `next`. Of a text of 16 bytes that begins at
 /// `from` as many count as it `adds`, with the byte read over the one at `byte_at` (16 where it
-/// isn't written); or as many actions as it `adds` are done, from number `from` on.
+/// isn't written); or as many actions as it `adds` are done, from number `from` on. It is `alone`
+/// if the byte is written and nothing else.
 #[derive(Clone, Copy, Debug, PartialEq, Eq)]
 pub struct Edge {
     pub next: usize,
     pub from: u32,
     pub byte_at: u8,
     pub adds: u8,
+    pub alone: bool,
     pub kind: EdgeKind,
 }
 
@@ -71,31 +73,39 @@ impl EdgeKind {
 
 impl Edge {
     ghost use Rattle.std.specs.Prelude.{◌≡◌, ◌⊎◌, true, false};
-    ghost use Rattle.kex_moves.specs.Edges.{is_written, is_known, IsAtRow};
+    ghost use Rattle.kex_moves.specs.Edges.{is_written, IsUnlearnt, IsSilent, IsAtRow};
 
     // An edge of a kind that says nothing.
     fn silent(kind: EdgeKind) -> Edge
-        ensures { result ≡ record { next = 0; from = 0; byte_at = 0; adds = 0; kind = kind } }
+        ensures { result ≡ record {
+          next = 0;
+          from = 0;
+          byte_at = 0;
+          adds = 0;
+          alone = false;
+          kind = kind;
+        } }
     {
         Edge {
             next: 0,
             from: 0,
             byte_at: 0,
             adds: 0,
+            alone: false,
             kind,
         }
     }
 
     // Nothing is learnt yet.
     pub fn unknown() -> Edge
-        ensures { result.kind ≡ EdgeKind.Unknown }
+        ensures { IsUnlearnt result }
     {
         Edge::silent(EdgeKind::Unknown)
     }
 
     // A plain step is to be taken.
     pub fn plain() -> Edge
-        ensures { is_known result.kind ≡ false }
+        ensures { IsSilent result }
     {
         Edge::silent(EdgeKind::Plain)
     }

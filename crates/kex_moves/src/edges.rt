@@ -8,7 +8,7 @@ ghost use Rattle.kex_action.specs.Holdings.{with_bytes};
 ghost use Rattle.kex_model.specs.Acting.{ActingState};
 ghost use Rattle.kex_action.specs.Actions.{after_actions};
 ghost use Rattle.kex_action.specs.Sheets.{with_buffer};
-ghost use Rattle.kex_moves.specs.Edges.{is_written, has_acts, IsAtRow};
+ghost use Rattle.kex_moves.specs.Edges.{is_written, has_acts, IsUnlearnt, IsAtRow};
 ghost use Rattle.kex_moves.specs.Runs.{StopsAt, stop_behind, run_of};
 ghost use Rattle.kex_moves.specs.Trails.{IsTrail, IsTrailOver};
 ghost use Rattle.kex_moves.specs.Known.{rows_of, IsEdge, IsOrdered, IsPairRow, HasRowFor, HasPlace};
@@ -126,7 +126,7 @@ fn push_row(
     requires { length edges.old.items + width ≤ MOST_EDGES }
     ensures pairs { OnOk result (pairs.new.items ≡ pairs.old.items ++ pair ∷ []) }
     ensures edges { OnOk result ((more : List Edge) × (edges.new.items ≡ edges.old.items ++ more)
-        × (length more ≡ width) × All (λ (e : Edge). e.kind ≡ EdgeKind.Unknown) more) }
+        × (length more ≡ width) × All IsUnlearnt more) }
 {
     pairs.push(pair)?;
     edges.resize(edges.len() + width, Edge::unknown())?;
@@ -370,6 +370,7 @@ impl Edges {
                 from: 0,
                 byte_at,
                 adds,
+                alone: kind.is_keep(),
                 kind,
             });
         };
@@ -382,6 +383,7 @@ impl Edges {
             from,
             byte_at,
             adds,
+            alone: false,
             kind,
         })
     }
@@ -412,6 +414,7 @@ impl Edges {
             from,
             byte_at: 16,
             adds,
+            alone: false,
             kind: kind_of_acts(opens, self.by_state()),
         })
     }

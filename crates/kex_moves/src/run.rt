@@ -4,7 +4,7 @@ ghost use Rattle.std.specs.Prelude.{◌≡◌, ℕ, ◌+◌, ◌*◌, ◌-◌, �
 ghost use Rattle.std.specs.Prelude.{IsNone, length, take, drop};
 ghost use Rattle.kex_moves.specs.declared.edge.EdgeKind.{EdgeKind};
 ghost use Rattle.kex_moves.specs.Runs.{HasEdgeRow, LeadsBack, HasKind, AreEdgesWithin, StopsAt};
-ghost use Rattle.kex_moves.specs.Runs.{run_from};
+ghost use Rattle.kex_moves.specs.Runs.{run_from, CopiesAlong};
 
 use crate::edge::Edge;
 use crate::put::put;
@@ -27,6 +27,13 @@ pub struct SheetStart {
 /// How many bytes of a run are copied at once. For that many it is asked once if they are there.
 const EIGHT: usize = 8;
 
+/// How many bytes or pieces were taken, and the row to which they lead.
+#[derive(Clone, Copy)]
+pub struct RowPoint {
+    pub count: usize,
+    pub row: usize,
+}
+
 // Copies eight bytes of a piece from `at` on over those of a buffer from `to` on. Of what is copied
 // as many bytes count as the caller says.
 #[inline(always)]
@@ -43,52 +50,85 @@ fn copy_eight(piece: &[u8], to: &mut [u8], at: usize)
     to[at..at + EIGHT].copy_from_slice(&copy);
 }
 
-// How many of the eight bytes from `at` on the edges of a row keep, up to another one.
-// The loop has a fixed end, so that it is unrolled.
+// How many of the eight bytes from `at` on are written alone along the edges from a row on, and
+// where they lead. The loop has a fixed end, so that it is unrolled. While the row stays nothing
+// waits for the edge that was read.
 #[inline(always)]
-fn kept_of_eight(classes: &[u8; 256], edges: &[Edge], piece: &[u8], at: usize) -> usize
-    requires row { All (λ c. c < length edges.now) classes.now }
-    requires from { at + 8 ≤ length piece.now }
-    requires kept { All (HasKind classes.now edges.now EdgeKind.Keep) (take at piece.now) }
-    ensures within { result ≤ 8 }
-    ensures kept { All (HasKind classes.now edges.now EdgeKind.Keep)
-        (take (at + result) piece.now) }
+fn copied_of_eight(
+    classes: &[u8; 256],
+    edges: &[Edge],
+    piece: &[u8],
+    at: usize,
+    from: usize,
+) -> RowPoint
+    requires rows { (text : List ℕ) × AreEdgesWithin
+        (record { classes = classes.now; edges = edges.now; text = text }) }
+    requires row { HasEdgeRow classes.now edges.now from }
+    requires back { LeadsBack classes.now edges.now from }
+    requires eight { at + 8 ≤ length piece.now }
+    ensures within { result.count ≤ 8 }
+    ensures row { HasEdgeRow classes.now edges.now result.row }
+    ensures back { LeadsBack classes.now edges.now result.row }
+    ensures ran { (text : List ℕ)
+        → AreEdgesWithin (record { classes = classes.now; edges = edges.now; text = text })
+        → CopiesAlong (record { classes = classes.now; edges = edges.now; text = text }) piece.now
+        from at result.row result.count }
 {
+    let mut row = from;
     let mut count = 0;
     while count < EIGHT {
         let byte = piece[at + count];
-        if !edges[classes[byte as usize] as usize].kind.is_keep() {
-            break;
+        let e = &edges[row + classes[byte as usize] as usize];
+        if !e.kind.is_keep() {
+            if !e.alone {
+                break;
+            }
+            row = e.next;
         }
         count += 1;
     }
-    count
+    RowPoint { count, row }
 }
 
-// Copies bytes as long as the edges of a row keep them, as that of the first does. Tells how many.
-// It may stop before that, where fewer than eight are left.
+// Copies bytes as long as each is written alone. The first one is, and leads to the row `next`.
+// Tells how many, and where they lead. It may stop before that, where fewer than eight are left.
 #[inline(always)]
-fn keep(classes: &[u8; 256], edges: &[Edge], piece: &[u8], to: &mut [u8]) -> usize
-    requires row { All (λ c. c < length edges.now) classes.now }
+fn copy_alone(
+    classes: &[u8; 256],
+    edges: &[Edge],
+    piece: &[u8],
+    to: &mut [u8],
+    next: usize,
+) -> RowPoint
+    requires rows { (text : List ℕ) × AreEdgesWithin
+        (record { classes = classes.now; edges = edges.now; text = text }) }
+    requires row { HasEdgeRow classes.now edges.now next }
+    requires back { LeadsBack classes.now edges.now next }
     requires some { 0 < length piece.now }
-    requires first { All (HasKind classes.now edges.now EdgeKind.Keep) (take 1 piece.now) }
     requires room { length piece.now ≤ length to.old }
-    ensures some { 0 < result }
-    ensures within { result ≤ length piece.now }
-    ensures kept { All (HasKind classes.now edges.now EdgeKind.Keep) (take result piece.now) }
-    ensures copied { take result to.new ≡ take result piece.now }
+    ensures some { 0 < result.count }
+    ensures within { result.count ≤ length piece.now }
+    ensures row { HasEdgeRow classes.now edges.now result.row }
+    ensures back { LeadsBack classes.now edges.now result.row }
+    ensures copied { take result.count to.new ≡ take result.count piece.now }
+    ensures ran { (text : List ℕ)
+        → AreEdgesWithin (record { classes = classes.now; edges = edges.now; text = text })
+        → CopiesAlong (record { classes = classes.now; edges = edges.now; text = text }) piece.now
+        next 1 result.row (result.count - 1) }
 {
     to[0] = piece[0];
+    let mut row = next;
     let mut count = 1;
     while count + EIGHT <= piece.len() {
         copy_eight(piece, to, count);
-        let more = kept_of_eight(classes, edges, piece, count);
-        count += more;
-        if more < EIGHT {
+        let more = copied_of_eight(classes, edges, piece, count, row);
+        count += more.count;
+        row = more.row;
+        if more.count < EIGHT {
             break;
         }
     }
-    count
+    RowPoint { count, row }
 }
 
 // How many of the eight bytes from `at` on the edges of a row drop, up to another one.
@@ -180,15 +220,16 @@ pub fn run(
     while at < piece.len() {
         let byte = piece[at];
         let e = edges[row + classes[byte as usize] as usize];
-        if e.kind.is_text() {
+        if e.alone {
+            let copied = copy_alone(classes, edges, &piece[at..], &mut buffer[used..], e.next);
+            at += copied.count;
+            used += copied.count;
+            row = copied.row;
+        } else if e.kind.is_text() {
             put(buffer, used, byte, text, e);
             used += e.adds as usize;
             at += 1;
             row = e.next;
-        } else if e.kind.is_keep() {
-            let count = keep(classes, &edges[row..], &piece[at..], &mut buffer[used..]);
-            at += count;
-            used += count;
         } else if e.kind.is_drop() {
             at += skip(classes, &edges[row..], &piece[at..]);
         } else {

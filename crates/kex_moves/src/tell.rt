@@ -11,10 +11,11 @@ ghost use Rattle.kex_moves.specs.declared.edges.Pair.{Pair};
 ghost use Rattle.kex_moves.specs.Known.{IsPairRow, IsKnown};
 ghost use Rattle.kex_moves.specs.Speech.{words_table, PerformsSaid, RefusesCode, SaidOn};
 
-use crate::along::{RowPoint, RowStride, act, arrive, make_room, part_of, rounds_left};
+use crate::along::{RowStride, act, arrive, make_room, part_of, rounds_left};
 use crate::edge::EdgeKind;
 use crate::edges::Edges;
 use crate::learn::{learn_word, row_for};
+use crate::run::RowPoint;
 use crate::spell::take_word;
 use kex_action::actor::Actor;
 use kex_action::sheet::Sheet;

@@ -1,4 +1,4 @@
-use Rattle.std.proofs.Common.{◌≡◌, ◌∙◌, [], take, refl, sym, ap, subst}
+use Rattle.std.proofs.Common.{◌∙◌, [], take, sym, subst}
 use Rattle.kex_machine.specs.Nodes.{Graph}
 use Rattle.kex_sst.specs.Tables.{Transducer}
 use Rattle.kex_moves.specs.Known.{IsKnown}

@@ -1,10 +1,9 @@
-use Rattle.std.proofs.Common.{◌≡◌, ◌∙◌, ◌≤◌, ◌<◌, IfSome, length, take, refl, sym, ap, subst, arith, length-take}
+use Rattle.std.proofs.Common.{◌≡◌, ◌∙◌, ◌≤◌, ◌<◌, IfSome, length, take, sym, ap, subst, arith, length-take}
 use Rattle.std.proofs.lemmas.List.{take-take}
 use Rattle.kex_machine.specs.Nodes.{Graph}
 use Rattle.kex_leaps.specs.Leaps.{acts_in, AreActsWithin, IsLeap}
 use Rattle.kex_moves.specs.declared.edges.Pair.{Pair}
-use Rattle.kex_moves.specs.Known.{IsPairRow, HasRowFor}
-use Rattle.kex_moves.specs.Along.{ReachedOn}
+use Rattle.kex_moves.specs.Known.{HasRowFor}
 use Rattle.kex_moves.proofs.KnownEdges.{pair_known, known_wider, grows_wider}
 use Rattle.kex_moves.proofs.SheetRuns.{reached_none, same_grows}
 use Rattle.kex_moves.proofs.LeapRuns.{reached_leap}

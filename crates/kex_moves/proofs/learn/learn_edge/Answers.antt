@@ -1,7 +1,6 @@
-use Rattle.std.proofs.Common.{◌≡◌, ◌∙◌, ap, sym, subst, IfSome, true, arith}
+use Rattle.std.proofs.Common.{◌∙◌, ap, sym, subst, arith}
 use Rattle.std.specs.Prelude.{slice_get}
-use Rattle.kex_moves.specs.Edges.{is_known}
-use Rattle.kex_moves.specs.Known.{IsRight, IsPairRow}
+use Rattle.kex_moves.specs.Known.{IsPairRow}
 use Rattle.kex_moves.proofs.KnownEdges.{class_below, pair_known, known_put, right_at_row}
 use Rattle.kex_moves.proofs.learn.learn_edge.Goals as goal
 

@@ -1,6 +1,5 @@
-use Rattle.std.proofs.Common.{IfSome, sym, subst, true, ◌≡◌, arith}
-use Rattle.kex_moves.specs.Edges.{is_known}
-use Rattle.kex_moves.specs.Known.{IsRight, IsPairRow}
+use Rattle.std.proofs.Common.{sym, subst, arith}
+use Rattle.kex_moves.specs.Known.{IsPairRow}
 use Rattle.kex_moves.specs.Speech.{words_table}
 use Rattle.kex_moves.proofs.KnownEdges.{pair_known, known_put, right_at_row}
 use Rattle.kex_moves.proofs.learn.learn_word.Goals as goal

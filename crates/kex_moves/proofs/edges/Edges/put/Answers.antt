@@ -19,6 +19,7 @@ stays k i e x h = record {
   begins = h.begins;
   room = h.room;
   acts = h.acts;
+  alone = h.alone;
 }
 
 ordered : (k : Known) (row class : ℕ) (p : Pair) (e : Edge) → IsOrdered k → IsPairRow k row p → class < k.width → IsEdge k e → IsAtRow row e → IsOrdered (with_edge k (row + class) e)

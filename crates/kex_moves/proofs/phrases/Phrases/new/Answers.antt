@@ -1,4 +1,4 @@
-use Rattle.std.proofs.Common.{◌≡◌, ◌∙◌, ◌<◌, ◌^◌, [], replicate, ap}
+use Rattle.std.proofs.Common.{◌∙◌, ◌<◌, ◌^◌, ap}
 use Rattle.std.proofs.lemmas.List.Elements.{All-replicate}
 use Rattle.std.proofs.lemmas.Nat.{pow_pos}
 use Rattle.kex_moves.specs.Known.{Known}
