@@ -53,6 +53,18 @@ fn place(marks: &[usize], at: usize, item: HeldItem) -> LeapAct
     }
 }
 
+// Puts one after others. There is room mostly: what makes room is apart.
+#[inline(always)]
+fn push<T: Copy>(all: &mut Vec<T>, one: T) -> Result<(), Memory>
+    ensures { OnOk result (all.new.items ≡ all.old.items ++ one ∷ []) }
+{
+    if all.len() == all.capacity() {
+        all.try_reserve(1)?;
+    }
+    all.push_reserved(one);
+    Ok(())
+}
+
 // Puts items after acts.
 #[inline(always)]
 fn put_acts(
@@ -67,7 +79,7 @@ fn put_acts(
 {
     'items: for item in items {
         let act = place(marks, at, *item);
-        acts.push(act)?;
+        push(acts, act)?;
     }
     Ok(())
 }
@@ -108,7 +120,7 @@ fn keep_front(marks: &mut Vec<usize>, at: usize, edge: &KnownEdge) -> Result<boo
     let firsts = edge.firsts();
     // All marks and the place of the byte, as at most edges that write.
     if firsts == keep.len() && firsts == marks.len() + 1 {
-        marks.push(at)?;
+        push(marks, at)?;
         return Ok(true);
     }
     let front = firsts.min(marks.len());
@@ -118,7 +130,7 @@ fn keep_front(marks: &mut Vec<usize>, at: usize, edge: &KnownEdge) -> Result<boo
     }
     if ends_at_byte(keep, front, marks.len()) {
         marks.truncate(front);
-        marks.push(at)?;
+        push(marks, at)?;
         return Ok(true);
     }
     Ok(false)
@@ -165,17 +177,13 @@ impl Trace {
         self.acts.clear();
     }
 
-    /// One mark more. There is room mostly: what makes room is apart.
+    /// One mark more.
     #[inline(always)]
     pub fn mark(&mut self, at: usize) -> Result<(), Memory>
         ensures marks { OnOk result (self.new.marks.items ≡ self.old.marks.items ++ at ∷ []) }
         ensures acts { self.new.acts.items ≡ self.old.acts.items }
     {
-        if self.marks.len() == self.marks.capacity() {
-            self.marks.try_reserve(1)?;
-        }
-        self.marks.push_reserved(at);
-        Ok(())
+        push(&mut self.marks, at)
     }
 
     /// The bytes from the one mark up to a place go to the output, and that is marked.
@@ -187,7 +195,7 @@ impl Trace {
             × (self.new.marks.items ≡ to ∷ [])) }
     {
         let from = self.marks[0];
-        self.acts.push(LeapAct::Text { from, to })?;
+        push(&mut self.acts, LeapAct::Text { from, to })?;
         self.marks[0] = to;
         Ok(())
     }

@@ -108,10 +108,11 @@ fn along(edges: &Edges, sheet: &mut Sheet, row: usize, piece: &[u8]) -> Halt
     halt
 }
 
-// Does the rest of an edge's actions that can't be done on a sheet.
+// Does the rest of an edge's actions that can't be done on a sheet. The edge leads to the row
+// `next`.
 fn act_rest(
     edges: &Edges,
-    edge: Edge,
+    next: usize,
     rest: &[Action],
     byte: u8,
     actor: &mut Actor,
@@ -119,7 +120,7 @@ fn act_rest(
     out: &mut Vec<u8>,
 ) -> Result<(), Memory>
     requires usable { IsTrue actor.old.usable }
-    requires to { (p : Pair) × IsPairRow edges.now edge.next p
+    requires to { (p : Pair) × IsPairRow edges.now next p
         × (p.node < length actor.old.machine.nodes) }
     requires sheet { IsSheet sheet.old }
     ensures did { OnOk result (state_of out.new.items actor.new.holding
@@ -131,7 +132,7 @@ fn act_rest(
         × (actor.new.refused ≡ actor.old.refused) }
     ensures usable { OnOk result (IsTrue actor.new.usable) }
 {
-    let node = edges.pair_at(edge.next).node;
+    let node = edges.pair_at(next).node;
     actor.hand_on(node, sheet, out)?;
     actor.act(node, rest, byte, out)
 }
@@ -162,7 +163,7 @@ pub fn act(
     let actions = edges.acts_of(edge);
     let count = actor.act_on(actions, byte, sheet)?;
     if count < actions.len() {
-        act_rest(edges, edge, &actions[count..], byte, actor, sheet, out)?;
+        act_rest(edges, edge.next, &actions[count..], byte, actor, sheet, out)?;
     }
     Ok(())
 }

@@ -18,7 +18,7 @@ returns-then-ends_at_byte-clause-kept c = λ yes.
     let long : length c.keep-keep.result.now ≡ length keep = ap (λ (l : List ℕ). length l) c.keep-keep.ensures in
     let ends = c.ends_at_byte.ensures c.if-ends_at_byte.true in
     let last : get_or keep n 0 ≡ get_or c.keep-keep.result.now n 0 = sym (ap (λ (l : List ℕ). get_or l n 0) c.keep-keep.ensures) in
-    (c.in_ok-push-2.ensures {u = tt}).items ∙ ap (λ l. l ++ c.args.at ∷ []) c.truncate-then-ends_at_byte.ensures.items ∙ firsts_marked c.args.at marks keep n (omega (arith, c.min-front.ensures)) (omega (arith, ends.0, long)) (λ i lt. c.firsts-firsts.ensures.1 i (omega (arith, lt, c.min-front.ensures))) (omega (arith, last, ends.1, c.len-3.ensures, c.args.marks.now.ok.0))
+    c.in_ok-push-2.ensures {u = tt} ∙ ap (λ l. l ++ c.args.at ∷ []) c.truncate-then-ends_at_byte.ensures.items ∙ firsts_marked c.args.at marks keep n (omega (arith, c.min-front.ensures)) (omega (arith, ends.0, long)) (λ i lt. c.firsts-firsts.ensures.1 i (omega (arith, lt, c.min-front.ensures))) (omega (arith, last, ends.1, c.len-3.ensures, c.args.marks.now.ok.0))
 
 pub returns-then-firsts-len-clause-kept : goal.returns-then-firsts-len-clause-kept
 returns-then-firsts-len-clause-kept c = λ yes.
@@ -28,4 +28,4 @@ returns-then-firsts-len-clause-kept c = λ yes.
     let long : length c.keep-keep.result.now ≡ length keep = ap (λ (l : List ℕ). length l) c.keep-keep.ensures in
     let all : c.firsts-firsts.result ≡ n + 1 = omega (arith, c.if-firsts-len.true, c.len.ensures) in
     let first = c.firsts-firsts.ensures.1 in
-    (c.in_ok-push.ensures {u = tt}).items ∙ ap (λ l. l ++ c.args.at ∷ []) (sym (take_all n marks (omega arith))) ∙ firsts_marked c.args.at marks keep n (omega arith) (omega (arith, c.if-firsts-keep.true, long, all)) (λ i lt. first i (omega (arith, lt, all))) (first n (omega (arith, all)))
+    c.in_ok-push.ensures {u = tt} ∙ ap (λ l. l ++ c.args.at ∷ []) (sym (take_all n marks (omega arith))) ∙ firsts_marked c.args.at marks keep n (omega arith) (omega (arith, c.if-firsts-keep.true, long, all)) (λ i lt. first i (omega (arith, lt, all))) (first n (omega (arith, all)))
