@@ -15,6 +15,11 @@ pub fn put(buffer: &mut [u8], used: usize, byte: u8, text: &[u8], e: Edge)
         ≡ take used buffer.old ++ writes text.now e byte }
     ensures len { length buffer.new ≡ length buffer.old }
 {
+    // Most words are the byte alone.
+    if e.alone {
+        buffer[used] = byte;
+        return;
+    }
     let from = e.from as usize;
     // By a copy, so that nothing asks whether text and buffer overlap.
     let mut copy = [0; 16];
