@@ -1,4 +1,5 @@
 pub mod Actions
+pub mod Deeds
 pub mod Buffers
 pub mod WalkEffects
 pub mod QuietWalks

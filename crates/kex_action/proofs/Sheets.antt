@@ -1,5 +1,5 @@
 -- What is on a sheet, effect by effect.
-use Rattle.std.proofs.Common.{◌≡◌, ℕ, zero, suc, ◌≤◌, ◌<◌, ◌+◌, ◌-◌, List, [], ◌∷◌, ◌++◌, length, get_or, take, drop, reverse, refl, sym, ap, ap₂, subst, ◌∙◌, arith, append_assoc, append-nil, Result, Ok, Err, IfOk}
+use Rattle.std.proofs.Common.{◌≡◌, ℕ, zero, suc, ◌≤◌, ◌<◌, ◌+◌, ◌-◌, List, [], ◌∷◌, ◌++◌, length, get_or, take, drop, reverse, refl, sym, ap, ap₂, subst, ◌∙◌, arith, append_assoc, append-nil, Result, Ok, Err, IfOk, Bool, true, false, IsTrue}
 use Rattle.std.proofs.Math.Seq.{take-add, take-length}
 use Rattle.std.proofs.lemmas.List.{take_more, take-append-drop, take-append-le, drop-append-le, take-take, drop-take, reverse-append, length-take-le}
 use Rattle.kex_code.specs.Registers.{Registers, content_of, with_content, pieces_text}
@@ -7,9 +7,9 @@ use Rattle.kex_code.specs.declared.piece.Piece.{Piece}
 use Rattle.kex_model.specs.Moves.{open_buffer, into, write, set_to, add_to}
 use Rattle.kex_model.specs.Acting.{ActingState, after_effect}
 use Rattle.kex_machine.specs.declared.MNode.{MNode}
-use Rattle.kex_action.specs.declared.action.Action.{Action}
-use Rattle.kex_action.specs.Actions.{after_action, after_actions}
-use Rattle.kex_action.proofs.Actions.{done-more, length-done}
+use Rattle.kex_action.specs.declared.deed.Deed.{Deed}
+use Rattle.kex_action.specs.Deeds.{after_deed, after_deeds}
+use Rattle.kex_action.proofs.Deeds.{deeds-more, length-deeds}
 use Rattle.kex_action.specs.declared.sheet.Sheet.{Sheet}
 use Rattle.kex_action.specs.Holdings.{Holding, with_bytes, state_of}
 use Rattle.kex_action.specs.Sheets.{with_buffer, with_marked_bytes, AreMarks, IsSheet, IsBlank, Writes, ClosesBuffer, state_with}
@@ -175,17 +175,22 @@ opened_sheet s s' h marks bytes used = record {
 kept_registers : (s : Sheet) (h : Holding) → (state_with s [] h).registers ≡ h.registers
 kept_registers s h = laid_registers (take s.used s.bytes.items) (reverse s.marks.items) (state_of [] h)
 
--- no action makes or takes away a register
-pub kept_count : (nodes : List MNode) (b : ℕ) (xs : List Action) (s s' : Sheet) (h h' : Holding) → state_with s' [] h' ≡ after_actions nodes b xs (state_with s [] h) → length h'.registers ≡ length h.registers
+-- no deed makes or takes away a register
+pub kept_count : (nodes : List MNode) (b : ℕ) (xs : List Deed) (s s' : Sheet) (h h' : Holding) → state_with s' [] h' ≡ after_deeds nodes b xs (state_with s [] h) → length h'.registers ≡ length h.registers
 kept_count nodes b xs s s' h h' e =
-    ap length (sym (kept_registers s' h') ∙ ap (λ z. z.registers) e) ∙ length-done nodes b xs (state_with s [] h) ∙ ap length (kept_registers s h)
+    ap length (sym (kept_registers s' h') ∙ ap (λ z. z.registers) e) ∙ length-deeds nodes b xs (state_with s [] h) ∙ ap length (kept_registers s h)
+
+-- one deed, done or not
+pub kept_by : (nodes : List MNode) (b : ℕ) (d : Deed) (x : Bool) (s s' : Sheet) (h h' : Holding) → (IsTrue x → (out : List ℕ) → state_with s' out h' ≡ after_deed nodes b d (state_with s out h)) → (x ≡ false → (out : List ℕ) → state_with s' out h' ≡ state_with s out h) → length h'.registers ≡ length h.registers
+kept_by nodes b d true s s' h h' did stays = kept_count nodes b (d ∷ []) s s' h h' (did refl [])
+kept_by nodes b d false s s' h h' did stays = kept_count nodes b [] s s' h h' (stays refl [])
 
 pub handed_count : (s : Sheet) (h h' : Holding) (out out' : List ℕ) → state_of out' h' ≡ state_with s out h → length h'.registers ≡ length h.registers
 handed_count s h h' out out' e = ap (λ z. length z.registers) e ∙ ap length (laid_registers (take s.used s.bytes.items) (reverse s.marks.items) (state_of out h))
 
--- one action more
-pub done_more : (nodes : List MNode) (b : ℕ) (xs : List Action) (i : ℕ) (d : Action) (s z z' : ActingState) → i < length xs → z ≡ after_actions nodes b (take i xs) s → z' ≡ after_action nodes b (get_or xs i d) z → z' ≡ after_actions nodes b (take (i + 1) xs) s
-done_more nodes b xs i d s z z' h was is = is ∙ ap (after_action nodes b (get_or xs i d)) was ∙ sym (done-more nodes b xs i d s h)
+-- one deed more
+pub done_more : (nodes : List MNode) (b : ℕ) (xs : List Deed) (i : ℕ) (d : Deed) (s z z' : ActingState) → i < length xs → z ≡ after_deeds nodes b (take i xs) s → z' ≡ after_deed nodes b (get_or xs i d) z → z' ≡ after_deeds nodes b (take (i + 1) xs) s
+done_more nodes b xs i d s z z' h was is = is ∙ ap (after_deed nodes b (get_or xs i d)) was ∙ sym (deeds-more nodes b xs i d s h)
 
 pub if_ok : {T E : Type 0} (P Q : T → Type 0) (r : Result T E) → ((x : T) → P x → Q x) → IfOk r P → IfOk r Q
 if_ok P Q (Ok x) f h = f x h

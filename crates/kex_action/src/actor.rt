@@ -1,16 +1,19 @@
 // The action machine.
 
 ghost use Rattle.std.specs.Prelude.{◌≡◌, ◌<◌, ◌≤◌, ◌↔◌, [], List, ℕ, IfOk, IsOk, OnOk, IfErr};
-ghost use Rattle.std.specs.Prelude.{All, OnErr, IsTrue, if◌then◌else◌, length, take};
+ghost use Rattle.std.specs.Prelude.{All, OnErr, IsTrue, if◌then◌else◌, false, length, take};
 ghost use Rattle.kex_code.specs.Registers.{content_of};
 ghost use Rattle.kex_code.specs.declared.symbol.Symbol.{Symbol};
+ghost use Rattle.kex_model.specs.Acting.{ActingState};
 ghost use Rattle.kex_action.specs.Holdings.{Does, state_of};
-ghost use Rattle.kex_action.specs.Actions.{after_actions};
+ghost use Rattle.kex_action.specs.Actions.{after_action};
+ghost use Rattle.kex_action.specs.Deeds.{after_deed, after_deeds};
 ghost use Rattle.kex_action.specs.Actors.{HasPerformed, TookAll, WentOn, IsWholeCode};
 ghost use Rattle.kex_action.specs.Faults.{AfterFault};
 ghost use Rattle.kex_action.specs.Sheets.{IsSheet, IsAsLong, IsBlank, state_with};
 
-use crate::action::{Action, act_all, act_on};
+use crate::action::Action;
+use crate::deed::{Deed, act_all, act_at, act_on, deed_of};
 use crate::fault::ActFault;
 use crate::sheet::Sheet;
 use crate::store::Store;
@@ -126,58 +129,85 @@ impl<'m> Actor<'m> {
         self.at
     }
 
-    /// Goes to a node, and does what the actions say, where this byte is read. Every code whose
-    /// steps do just that, from where it is, is performed then.
+    /// Goes to a node, and does deeds, where this byte is read. Every code whose steps do just
+    /// that, from where it is, is performed then.
     pub fn act(
         &mut self,
         node: u32,
-        actions: &[Action],
+        deeds: &[Deed],
         byte: u8,
         out: &mut Vec<u8>,
     ) -> Result<(), Memory>
         requires usable { IsTrue self.old.usable }
         requires node { node < length self.old.machine.nodes }
         ensures ok { OnOk result ((c : List Symbol) → Does self.old.machine.nodes self.old.at c node
-            (after_actions self.old.machine.nodes byte actions.now)
+            (after_deeds self.old.machine.nodes byte deeds.now)
             → WentOn self.old self.new c c out.old.items out.new.items) }
-        ensures did { OnOk result (state_of out.new.items self.new.holding ≡ after_actions
-            self.old.machine.nodes byte actions.now (state_of out.old.items self.old.holding)) }
+        ensures did { OnOk result (state_of out.new.items self.new.holding ≡ after_deeds
+            self.old.machine.nodes byte deeds.now (state_of out.old.items self.old.holding)) }
         ensures node { OnOk result (self.new.at ≡ node) }
         ensures machine { self.new.machine ≡ self.old.machine }
         ensures refused { self.new.refused ≡ self.old.refused }
         ensures usable { IsTrue self.new.usable ↔ IsOk result }
     {
         self.usable = false;
-        act_all(self.machine, actions, byte, &mut self.store, out)?;
+        act_all(self.machine, deeds, byte, &mut self.store, out)?;
         self.at = node;
         self.usable = true;
         Ok(())
     }
 
-    /// Does on a sheet what the actions say, where this byte is read, from the first on. Tells how
-    /// many were done; how many those are isn't promised.
+    /// Does deeds on a sheet, where this byte is read, from the first on. Tells how many were done;
+    /// how many those are isn't promised.
     #[inline(always)]
-    pub fn act_on(
-        &mut self,
-        actions: &[Action],
-        byte: u8,
-        sheet: &mut Sheet,
-    ) -> Result<usize, Memory>
+    pub fn act_on(&mut self, deeds: &[Deed], byte: u8, sheet: &mut Sheet) -> Result<usize, Memory>
         requires usable { IsTrue self.old.usable }
         requires sheet { IsSheet sheet.old }
         ensures did { IfOk result (λ n. (out : List ℕ)
-            → state_with sheet.new out self.new.holding ≡ after_actions self.old.machine.nodes byte
-            (take n actions.now) (state_with sheet.old out self.old.holding)) }
-        ensures count { IfOk result (λ n. n ≤ length actions.now) }
+            → state_with sheet.new out self.new.holding ≡ after_deeds self.old.machine.nodes byte
+            (take n deeds.now) (state_with sheet.old out self.old.holding)) }
+        ensures count { IfOk result (λ n. n ≤ length deeds.now) }
         ensures sheet { OnOk result (IsSheet sheet.new × IsAsLong sheet.old sheet.new) }
         ensures same { (self.new.machine ≡ self.old.machine) × (self.new.at ≡ self.old.at)
             × (self.new.refused ≡ self.old.refused) }
         ensures usable { IsTrue self.new.usable ↔ IsOk result }
     {
         self.usable = false;
-        let count = act_on(self.machine, actions, byte, &mut self.store, sheet)?;
+        let count = act_on(self.machine, deeds, byte, &mut self.store, sheet)?;
         self.usable = true;
         Ok(count)
+    }
+
+    /// Does one deed on a sheet, where this byte is read. False where it isn't done there; when
+    /// that is isn't promised.
+    #[inline(always)]
+    pub fn act_at(&mut self, deed: Deed, byte: u8, sheet: &mut Sheet) -> Result<bool, Memory>
+        requires usable { IsTrue self.old.usable }
+        requires sheet { IsSheet sheet.old }
+        ensures did { IfOk result (λ b. IsTrue b → (out : List ℕ)
+            → state_with sheet.new out self.new.holding ≡ after_deed self.old.machine.nodes byte
+            deed (state_with sheet.old out self.old.holding)) }
+        ensures stays { IfOk result (λ b. b ≡ false → (out : List ℕ)
+            → state_with sheet.new out self.new.holding
+            ≡ state_with sheet.old out self.old.holding) }
+        ensures sheet { OnOk result (IsSheet sheet.new × IsAsLong sheet.old sheet.new) }
+        ensures same { (self.new.machine ≡ self.old.machine) × (self.new.at ≡ self.old.at)
+            × (self.new.refused ≡ self.old.refused) }
+        ensures usable { IsTrue self.new.usable ↔ IsOk result }
+    {
+        self.usable = false;
+        let did = act_at(self.machine, deed, byte, &mut self.store, sheet)?;
+        self.usable = true;
+        Ok(did)
+    }
+
+    /// What an action does on its machine.
+    #[inline(always)]
+    pub fn deed_of(&self, action: Action) -> Deed
+        ensures { (b : ℕ) (s : ActingState) → after_deed self.now.machine.nodes b result s
+            ≡ after_action self.now.machine.nodes b action s }
+    {
+        deed_of(self.machine, action)
     }
 
     /// Goes to a node, and hands on what is on a sheet.

@@ -8,8 +8,10 @@
 pub mod action;
 pub mod actor;
 mod buffer;
+pub mod deed;
 pub mod fault;
 mod piece;
+pub mod push;
 pub mod sheet;
 mod store;
 mod walk;

@@ -6,6 +6,7 @@ ghost use Rattle.kex_action.specs.Sheets.{IsSheet, IsAsLong, IsBlank, IsSame, Wr
 
 use crate::buffer::Buffer;
 use crate::piece::{PIECE, copy_piece};
+use crate::push::push;
 use kex_code::memory::Memory;
 use std::alloc::Global;
 
@@ -16,18 +17,6 @@ pub struct Sheet {
     pub bytes: Vec<u8>,
     pub used: usize,
     pub marks: Vec<usize>,
-}
-
-// A mark is put after others. There is room mostly: what makes room is apart.
-#[inline(always)]
-fn push(marks: &mut Vec<usize>, mark: usize) -> Result<(), Memory>
-    ensures ok { OnOk result (marks.new.items ≡ marks.old.items ++ mark ∷ []) }
-{
-    if marks.len() == marks.capacity() {
-        marks.try_reserve(1)?;
-    }
-    marks.push_reserved(mark);
-    Ok(())
 }
 
 impl Sheet {
@@ -117,9 +106,9 @@ impl Sheet {
         self.write_many(buffer.as_slice())
     }
 
-    // Opens a buffer.
+    /// Opens a buffer.
     #[inline(always)]
-    pub(crate) fn open(&mut self) -> Result<(), Memory>
+    pub fn open(&mut self) -> Result<(), Memory>
         requires { IsSheet self.old }
         ensures opened { OnOk result (self.new.marks.items
             ≡ self.old.marks.items ++ self.old.used ∷ []) }

@@ -7,7 +7,7 @@ ghost use Rattle.kex_code.specs.declared.piece.Piece.{Piece};
 ghost use Rattle.kex_model.specs.Programs.{HasPieces};
 ghost use Rattle.kex_model.specs.Acting.{after_append, after_effect};
 ghost use Rattle.kex_machine.specs.Nodes.{effect_of, HasRegisters};
-ghost use Rattle.kex_model.specs.Moves.{into};
+ghost use Rattle.kex_model.specs.Moves.{into, write};
 ghost use Rattle.kex_action.specs.Holdings.{state_of, dropped_from, moved_to};
 ghost use Rattle.kex_action.specs.Sheets.{IsSheet, IsAsLong, state_with};
 
@@ -197,20 +197,20 @@ impl Store {
         append_to(&mut self.buffers, bytes, out)
     }
 
-    fn write_register(&mut self, r: u32, out: &mut Vec<u8>) -> Result<(), Memory>
-        requires { r < length self.old.registers }
+    // Writes what a register has.
+    pub fn write_register(&mut self, r: u32, out: &mut Vec<u8>) -> Result<(), Memory>
         ensures ok { OnOk result (state_of out.new.items self.new ≡ after_append
             (content_of self.old.registers r) out.old.items self.old.buffers self.old.registers) }
         ensures err { OnErr result (out.new.items ≡ out.old.items) }
     {
-        append_to(
-            &mut self.buffers,
-            self.registers[r as usize].as_slice(),
-            out,
-        )
+        match self.registers.get(r as usize) {
+            Some(register) => append_to(&mut self.buffers, register.as_slice(), out),
+            None => Ok(()),
+        }
     }
 
-    fn open(&mut self) -> Result<(), Memory>
+    // Opens a buffer.
+    pub fn open(&mut self) -> Result<(), Memory>
         ensures { OnOk result (self.new
             ≡ record { buffers = [] ∷ self.old.buffers; registers = self.old.registers }) }
     {
@@ -227,7 +227,8 @@ impl Store {
         self.spare = buffer;
     }
 
-    fn drop_innermost(&mut self)
+    // The innermost buffer goes, if one is open.
+    pub fn drop_innermost(&mut self)
         ensures { self.new ≡ dropped_from self.old.buffers self.old.registers }
     {
         if let Some(buffer) = self.buffers.pop() {
@@ -236,13 +237,18 @@ impl Store {
     }
 
     // The register takes the innermost buffer, which is moved.
-    fn move_into(&mut self, r: u32)
-        requires { r < length self.old.registers }
+    pub fn move_into(&mut self, r: u32)
         ensures { self.new ≡ moved_to r self.old.buffers self.old.registers }
     {
-        if let Some(buffer) = self.buffers.pop() {
-            let old = mem::replace(&mut self.registers[r as usize], buffer);
-            self.put_by(old);
+        let Some(buffer) = self.buffers.pop() else {
+            return;
+        };
+        match self.registers.get_mut(r as usize) {
+            Some(register) => {
+                let old = mem::replace(register, buffer);
+                self.put_by(old);
+            }
+            None => self.put_by(buffer),
         }
     }
 
@@ -309,11 +315,11 @@ impl Store {
         }
     }
 
-    // The register takes the innermost buffer of a sheet, if one was opened there.
+    // The register takes the innermost buffer of a sheet, if one was opened there. False where it
+    // can't: nothing is done then.
     #[inline(always)]
-    fn take_from(&mut self, r: u32, sheet: &mut Sheet) -> Result<bool, Memory>
-        requires register { r < length self.old.registers }
-        requires sheet { IsSheet sheet.old }
+    pub fn take_from(&mut self, r: u32, sheet: &mut Sheet) -> Result<bool, Memory>
+        requires { IsSheet sheet.old }
         ensures did { IfOk result (λ b. IsTrue b → (out : List ℕ)
             → state_with sheet.new out self.new
             ≡ after_effect (into r) (state_with sheet.old out self.old)) }
@@ -321,15 +327,34 @@ impl Store {
             → state_with sheet.new out self.new ≡ state_with sheet.old out self.old) }
         ensures sheet { OnOk result (IsSheet sheet.new × IsAsLong sheet.old sheet.new) }
     {
+        let Some(register) = self.registers.get_mut(r as usize) else {
+            return Ok(false);
+        };
         let Some(end) = sheet.close() else {
             return Ok(false);
         };
-        self.registers[r as usize].replace(&sheet.bytes, sheet.used, end)?;
+        register.replace(&sheet.bytes, sheet.used, end)?;
         Ok(true)
     }
 
-    // Does an effect on a sheet. False where it can't be done there: nothing is done then.
+    // Writes on a sheet what a register has. False where it can't: nothing is done then.
     #[inline(always)]
+    pub fn write_on(&self, r: u32, sheet: &mut Sheet) -> bool
+        requires { IsSheet sheet.old }
+        ensures did { IsTrue result → (out : List ℕ) → state_with sheet.new out self.now
+            ≡ after_effect (write r) (state_with sheet.old out self.now) }
+        ensures stays { result ≡ false → (out : List ℕ)
+            → state_with sheet.new out self.now ≡ state_with sheet.old out self.now }
+        ensures sheet { IsSheet sheet.new × IsAsLong sheet.old sheet.new }
+    {
+        match self.registers.get(r as usize) {
+            Some(register) => sheet.write_buffer(register),
+            None => false,
+        }
+    }
+
+    // Does on a sheet an effect that is no deed of its own. False where it can't be done there:
+    // nothing is done then.
     pub fn perform_on(&mut self, effect: &Effect, sheet: &mut Sheet) -> Result<bool, Memory>
         requires registers { HasRegisters (length self.old.registers) effect.now }
         requires sheet { IsSheet sheet.old }
@@ -342,13 +367,6 @@ impl Store {
     {
         match effect {
             Effect::Lit(bytes) => Ok(sheet.write(bytes.as_slice())),
-            Effect::Open => {
-                sheet.open()?;
-                Ok(true)
-            }
-            Effect::Drop => Ok(sheet.close().is_some()),
-            Effect::Into(r) => self.take_from(*r, sheet),
-            Effect::Write(r) => Ok(sheet.write_buffer(&self.registers[*r as usize])),
             Effect::Set(r, pieces) => {
                 self.set(*r, pieces.as_slice())?;
                 Ok(true)
@@ -357,6 +375,7 @@ impl Store {
                 self.add(*r, pieces.as_slice())?;
                 Ok(true)
             }
+            Effect::Open | Effect::Drop | Effect::Into(_) | Effect::Write(_) => Ok(false),
         }
     }
 

@@ -5,10 +5,6 @@ use Rattle.std.proofs.lemmas.List.Elements.{All-drop}
 use Rattle.std.proofs.Math.Seq.{get_or-append_seam}
 use Rattle.kex_model.specs.Acting.{ActingState}
 use Rattle.kex_machine.specs.declared.MNode.{MNode}
-use Rattle.kex_machine.specs.Nodes.{node_moves}
-use Rattle.kex_action.specs.declared.action.Action.{Action}
-use Rattle.kex_action.specs.declared.action.Action.TheVariants.{Node}
-use Rattle.kex_action.specs.Actions.{after_move, after_actions}
 use Rattle.kex_action.specs.declared.sheet.Sheet.{Sheet}
 use Rattle.kex_action.specs.Sheets.{IsSheet, IsBlank, AreMarks}
 use Rattle.kex_held.specs.Acts.{after_act, after_acts}
@@ -67,12 +63,3 @@ does_more xs i d a m b lt e does = λ nodes piece within.
           ∙ ap (after_act nodes (act_in piece (Text m b))) (first.1 s)
           ∙ slices_joined nodes piece a m b first.0.0 last.0 s,
     )
-
--- of one action, that was done or not
-pub one_done : (nodes : List MNode) (by n : ℕ) (s z : ActingState) → n ≤ 1 → 0 < n → z ≡ after_actions nodes 0 (take n (Node by ∷ [])) s → z ≡ after_move (node_moves nodes by) s
-one_done nodes by zero s z le lt e = absurd (omega arith)
-one_done nodes by (suc zero) s z le lt e = e
-one_done nodes by (suc (suc n)) s z le lt e = absurd (omega arith)
-
-pub none_done : (nodes : List MNode) (xs : List Action) (n : ℕ) (s z : ActingState) → n ≡ 0 → z ≡ after_actions nodes 0 (take n xs) s → z ≡ s
-none_done nodes xs n s z none e = e ∙ ap (λ k. after_actions nodes 0 (take k xs) s) none

@@ -8,6 +8,7 @@ ghost use Rattle.kex_leaps.specs.declared.act.LeapAct.TheVariants.{Text};
 ghost use Rattle.kex_leaps.specs.Leaps.{leap_act, leap_acts};
 
 use crate::act::LeapAct;
+use kex_action::push::push;
 use kex_code::memory::Memory;
 use kex_held::item::HeldItem;
 use kex_held_rows::note::KnownEdge;
@@ -53,18 +54,6 @@ fn place(marks: &[usize], at: usize, item: HeldItem) -> LeapAct
     }
 }
 
-// Puts one after others. There is room mostly: what makes room is apart.
-#[inline(always)]
-fn push<T: Copy>(all: &mut Vec<T>, one: T) -> Result<(), Memory>
-    ensures { OnOk result (all.new.items ≡ all.old.items ++ one ∷ []) }
-{
-    if all.len() == all.capacity() {
-        all.try_reserve(1)?;
-    }
-    all.push_reserved(one);
-    Ok(())
-}
-
 // Puts items after acts.
 #[inline(always)]
 fn put_acts(
@@ -94,7 +83,7 @@ fn put_points(marks: &[usize], at: usize, keep: &[u8], out: &mut Vec<usize>) -> 
 {
     'points: for number in keep {
         let point = point_of(marks, at, *number);
-        out.push(point)?;
+        push(out, point)?;
     }
     Ok(())
 }

@@ -3,6 +3,7 @@
 ghost use Rattle.std.specs.Prelude.{◌≡◌, ◌<◌, ◌≤◌, ◌+◌, ◌-◌, OnOk, IsTrue, length, take};
 ghost use Rattle.kex_machine.specs.Nodes.{node_moves};
 ghost use Rattle.kex_action.specs.Actions.{after_move};
+ghost use Rattle.kex_action.specs.Deeds.{after_deed};
 ghost use Rattle.kex_action.specs.Sheets.{IsSheet, IsAsLong, Writes, state_with};
 ghost use Rattle.kex_held.specs.Acts.{after_act, after_acts};
 ghost use Rattle.kex_held.specs.Slices.{slice_between};
@@ -12,6 +13,7 @@ use crate::act::LeapAct;
 use crate::copy::{AT_ONCE, copy_at_once};
 use kex_action::action::Action;
 use kex_action::actor::Actor;
+use kex_action::deed::Deed;
 use kex_action::sheet::Sheet;
 use kex_code::memory::Memory;
 
@@ -79,7 +81,32 @@ fn make_place(
     Ok(())
 }
 
+// Does a deed after what is on a sheet.
+fn act_behind(
+    node: u32,
+    deed: Deed,
+    actor: &mut Actor,
+    sheet: &mut Sheet,
+    out: &mut Vec<u8>,
+) -> Result<(), Memory>
+    requires usable { IsTrue actor.old.usable }
+    requires node { node < length actor.old.machine.nodes }
+    requires sheet { IsSheet sheet.old }
+    ensures did { OnOk result (state_with sheet.new out.new.items actor.new.holding
+        ≡ after_deed actor.old.machine.nodes 0 deed
+        (state_with sheet.old out.old.items actor.old.holding)) }
+    ensures sheet { OnOk result (IsSheet sheet.new × IsAsLong sheet.old sheet.new) }
+    ensures same { (actor.new.machine ≡ actor.old.machine)
+        × (actor.new.refused ≡ actor.old.refused) }
+    ensures usable { OnOk result (IsTrue actor.new.usable) }
+{
+    actor.hand_on(node, sheet, out)?;
+    actor.act(node, &[deed], 0, out)?;
+    Ok(())
+}
+
 // Does what a node does: on a sheet, or where it can't be done there, after what is on it.
+#[inline(always)]
 fn act(
     node: u32,
     by: u32,
@@ -98,14 +125,11 @@ fn act(
         × (actor.new.refused ≡ actor.old.refused) }
     ensures usable { OnOk result (IsTrue actor.new.usable) }
 {
-    let actions = [Action::Node(by)];
-    let count = actor.act_on(&actions, 0, sheet)?;
-    if count > 0 {
+    let deed = actor.deed_of(Action::Node(by));
+    if actor.act_at(deed, 0, sheet)? {
         return Ok(());
     }
-    actor.hand_on(node, sheet, out)?;
-    actor.act(node, &actions, 0, out)?;
-    Ok(())
+    act_behind(node, deed, actor, sheet, out)
 }
 
 // Does one of the acts.

@@ -12,7 +12,7 @@ use Rattle.kex_machine.specs.declared.MNode.{MNode}
 use Rattle.kex_machine.specs.Nodes.{Graph}
 use Rattle.kex_action.specs.Holdings.{LeadsByCode, Does, with_bytes}
 use Rattle.kex_action.specs.Actors.{Position, HasPerformed, BeginsRun, WentOn}
-use Rattle.kex_action.specs.Actions.{after_actions}
+use Rattle.kex_action.specs.Deeds.{after_deeds}
 use Rattle.kex_action.proofs.NodeSteps.{leads_on, stays}
 use Rattle.kex_action.proofs.ActorRuns.{goes_from}
 use Rattle.kex_sst.specs.Parts.{parts_code}
@@ -83,7 +83,7 @@ runs_none t nodes k p row bs r = record {
 runs_more : (t : Transducer) (nodes : List MNode) (k : Known) (p : Pair) (class b : ℕ) (e : Edge) (bs : List ℕ) (stop : RunStop) → slice_get t.classes b ≡ Some class → is_written e.kind ≡ true → (r : IsRight t nodes k p class e) → RunsTo t nodes k r.to bs stop → RunsTo t nodes k p (b ∷ bs) (stop_behind (writes k.text e b) stop)
 runs_more t nodes k p class b e bs stop is written r q =
     let first = code_with_byte b r.by.update.out in
-    let made = λ (s : ActingState). ap (λ x. cond x (with_bytes (writes k.text e b) s) (after_actions nodes b (take e.adds (drop e.from k.acts)) s)) written in
+    let made = λ (s : ActingState). ap (λ x. cond x (with_bytes (writes k.text e b) s) (after_deeds nodes b (take e.adds (drop e.from k.acts)) s)) written in
     record {
       to = q.to;
       row = q.row;
@@ -187,7 +187,7 @@ pub right_at : (t : Transducer) (g : Graph) (k : Known) (row class : ℕ) (p : P
 right_at t g k row class p e h r lt is known = h.right r.number class p e r.at lt (ap (λ x. slice_get k.edges (x + class)) (sym r.begins) ∙ is) known
 
 -- the actor that has gone where an edge leads and has done its actions
-pub reached_act : (t : Transducer) (k : Known) (old new : Position) (p : Pair) (class b : ℕ) (e : Edge) (xs ys : List ℕ) → slice_get t.classes b ≡ Some class → (r : IsRight t old.machine.nodes k p class e) → is_written e.kind ≡ false → p.node ≡ old.at → new.machine ≡ old.machine → new.at ≡ r.to.node → ((d : List Symbol) → Does old.machine.nodes old.at d new.at (after_actions old.machine.nodes b (take e.adds (drop e.from k.acts))) → WentOn old new d d xs ys) → Reached t k old new p.state e.next (b ∷ []) xs ys
+pub reached_act : (t : Transducer) (k : Known) (old new : Position) (p : Pair) (class b : ℕ) (e : Edge) (xs ys : List ℕ) → slice_get t.classes b ≡ Some class → (r : IsRight t old.machine.nodes k p class e) → is_written e.kind ≡ false → p.node ≡ old.at → new.machine ≡ old.machine → new.at ≡ r.to.node → ((d : List Symbol) → Does old.machine.nodes old.at d new.at (after_deeds old.machine.nodes b (take e.adds (drop e.from k.acts))) → WentOn old new d d xs ys) → Reached t k old new p.state e.next (b ∷ []) xs ys
 reached_act t k old new p class b e xs ys is r acts node machine there went = record {
   state = r.to.state;
   row_for = (r.to, r.row, refl, sym there);
@@ -202,8 +202,8 @@ reached_act t k old new p class b e xs ys is r acts node machine there went = re
     code : List Symbol
     code = code_with_byte b r.by.update.out
 
-    made : (s : ActingState) → makes old.machine.nodes k e b s ≡ after_actions old.machine.nodes b (take e.adds (drop e.from k.acts)) s
-    made s = ap (λ x. cond x (with_bytes (writes k.text e b) s) (after_actions old.machine.nodes b (take e.adds (drop e.from k.acts)) s)) acts
+    made : (s : ActingState) → makes old.machine.nodes k e b s ≡ after_deeds old.machine.nodes b (take e.adds (drop e.from k.acts)) s
+    made s = ap (λ x. cond x (with_bytes (writes k.text e b) s) (after_deeds old.machine.nodes b (take e.adds (drop e.from k.acts)) s)) acts
 
     from : (x : List Symbol) → TakesCode old.machine.nodes old.at (code ++ x) → TakesCode old.machine.nodes p.node (code ++ x)
     from x takes = subst (λ n. TakesCode old.machine.nodes n (code ++ x)) (sym node) takes

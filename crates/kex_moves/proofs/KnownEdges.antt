@@ -10,8 +10,10 @@ use Rattle.kex_model.specs.Acting.{ActingState}
 use Rattle.kex_machine.specs.declared.MNode.{MNode}
 use Rattle.kex_machine.specs.Nodes.{Graph}
 use Rattle.kex_action.specs.declared.action.Action.{Action}
+use Rattle.kex_action.specs.declared.deed.Deed.{Deed}
 use Rattle.kex_action.specs.Holdings.{LeadsByCode, with_bytes}
 use Rattle.kex_action.specs.Actions.{after_actions}
+use Rattle.kex_action.specs.Deeds.{after_deeds}
 use Rattle.kex_byteset.specs.Classes.{class_count}
 use Rattle.kex_sst.specs.declared.parts.Part.{Part}
 use Rattle.kex_sst.specs.declared.table.Transition.{Transition}
@@ -159,11 +161,11 @@ known_wider t g old new state node h w o s n = subst (λ k. IsKnown t g k) (sym 
 pub grows_wider : (old new : Known) (state node : ℕ) → Widens old new state node → KnownGrows old new
 grows_wider old new state node w = subst (λ k. KnownGrows old k) (sym w.wider) (record { width = refl; rows = rows_wide old w.pairs w.edges })
 
--- texts and actions that are added
-abbrev long : Known → List ℕ → List Action → Known
+-- texts and deeds that are added
+abbrev long : Known → List ℕ → List Deed → Known
 long k text acts = record { classes = k.classes; width = k.width; shift = k.shift; pairs = k.pairs; edges = k.edges; text = k.text ++ text; acts = k.acts ++ acts }
 
-rows_long : (k : Known) (text : List ℕ) (acts : List Action) (row : ℕ) (p : Pair) → IsPairRow k row p → IsPairRow (long k text acts) row p
+rows_long : (k : Known) (text : List ℕ) (acts : List Deed) (row : ℕ) (p : Pair) → IsPairRow k row p → IsPairRow (long k text acts) row p
 rows_long k text acts row p r = record { number = r.number; at = r.at; begins = r.begins }
 
 writes_long : (text more : List ℕ) (e : Edge) (b : ℕ) → HasRoom (length text) e → writes text e b ≡ writes (text ++ more) e b
@@ -171,10 +173,10 @@ writes_long text more e b h =
     let same : take 16 (drop e.from (text ++ more)) ≡ take 16 (drop e.from text) = ap (take 16) (drop-append-le e.from text more (omega (arith, h.text))) ∙ take-append-le 16 (drop e.from text) more (omega (arith, h.text, length-drop e.from text)) in
     ap (λ l. take e.adds (set l e.byte_at b)) (sym same)
 
-acts_long : (acts more : List Action) (e : Edge) → e.from + e.adds ≤ length acts → take e.adds (drop e.from acts) ≡ take e.adds (drop e.from (acts ++ more))
+acts_long : (acts more : List Deed) (e : Edge) → e.from + e.adds ≤ length acts → take e.adds (drop e.from acts) ≡ take e.adds (drop e.from (acts ++ more))
 acts_long acts more e h = sym (ap (take e.adds) (drop-append-le e.from acts more (omega arith)) ∙ take-append-le e.adds (drop e.from acts) more (omega (arith, length-drop e.from acts)))
 
--- what is known is written, or actions
+-- what is known is written, or deeds
 acts_unless : (k : EdgeKind) → is_known k ≡ true → is_written k ≡ false → has_acts k ≡ true
 acts_unless Keep h w = cc
 acts_unless Drop h w = cc
@@ -184,18 +186,18 @@ acts_unless Opens h w = refl
 acts_unless Plain h w = cc
 acts_unless Unknown h w = cc
 
-makes_long : (nodes : List MNode) (k : Known) (text : List ℕ) (acts : List Action) (e : Edge) (b : ℕ) (s : ActingState) → IsEdge k e → is_known e.kind ≡ true → makes nodes k e b s ≡ makes nodes (long k text acts) e b s
+makes_long : (nodes : List MNode) (k : Known) (text : List ℕ) (acts : List Deed) (e : Edge) (b : ℕ) (s : ActingState) → IsEdge k e → is_known e.kind ≡ true → makes nodes k e b s ≡ makes nodes (long k text acts) e b s
 makes_long nodes k text acts e b s h known = by (is_written e.kind) refl
   where
     by : (x : Bool) → is_written e.kind ≡ x → makes nodes k e b s ≡ makes nodes (long k text acts) e b s
     by true is =
-        let first : makes nodes k e b s ≡ with_bytes (writes k.text e b) s = ap (λ x. cond x (with_bytes (writes k.text e b) s) (after_actions nodes b (take e.adds (drop e.from k.acts)) s)) is in
-        let last : makes nodes (long k text acts) e b s ≡ with_bytes (writes (k.text ++ text) e b) s = ap (λ x. cond x (with_bytes (writes (k.text ++ text) e b) s) (after_actions nodes b (take e.adds (drop e.from (k.acts ++ acts))) s)) is in
+        let first : makes nodes k e b s ≡ with_bytes (writes k.text e b) s = ap (λ x. cond x (with_bytes (writes k.text e b) s) (after_deeds nodes b (take e.adds (drop e.from k.acts)) s)) is in
+        let last : makes nodes (long k text acts) e b s ≡ with_bytes (writes (k.text ++ text) e b) s = ap (λ x. cond x (with_bytes (writes (k.text ++ text) e b) s) (after_deeds nodes b (take e.adds (drop e.from (k.acts ++ acts))) s)) is in
         first ∙ ap (λ l. with_bytes l s) (writes_long k.text text e b (h.room is)) ∙ sym last
     by false is =
-        let first : makes nodes k e b s ≡ after_actions nodes b (take e.adds (drop e.from k.acts)) s = ap (λ x. cond x (with_bytes (writes k.text e b) s) (after_actions nodes b (take e.adds (drop e.from k.acts)) s)) is in
-        let last : makes nodes (long k text acts) e b s ≡ after_actions nodes b (take e.adds (drop e.from (k.acts ++ acts))) s = ap (λ x. cond x (with_bytes (writes (k.text ++ text) e b) s) (after_actions nodes b (take e.adds (drop e.from (k.acts ++ acts))) s)) is in
-        first ∙ ap (λ l. after_actions nodes b l s) (acts_long k.acts acts e (h.acts (acts_unless e.kind known is))) ∙ sym last
+        let first : makes nodes k e b s ≡ after_deeds nodes b (take e.adds (drop e.from k.acts)) s = ap (λ x. cond x (with_bytes (writes k.text e b) s) (after_deeds nodes b (take e.adds (drop e.from k.acts)) s)) is in
+        let last : makes nodes (long k text acts) e b s ≡ after_deeds nodes b (take e.adds (drop e.from (k.acts ++ acts))) s = ap (λ x. cond x (with_bytes (writes (k.text ++ text) e b) s) (after_deeds nodes b (take e.adds (drop e.from (k.acts ++ acts))) s)) is in
+        first ∙ ap (λ l. after_deeds nodes b l s) (acts_long k.acts acts e (h.acts (acts_unless e.kind known is))) ∙ sym last
 
 pub known_longer : (t : Transducer) (g : Graph) (old new : Known) → IsKnown t g old → Lengthens old new → IsOrdered new → IsKnown t g new
 known_longer t g old new h l o = subst (λ k. IsKnown t g k) (sym l.longer) (record {
@@ -275,7 +277,7 @@ known_put t g k new row class p e h r lt right o is = subst (λ x. IsKnown t g x
 
 -- an edge that was right is right as it is in a row
 makes_at_row : (nodes : List MNode) (k : Known) (e : Edge) (b : ℕ) (s : ActingState) → is_written e.kind ≡ true → makes nodes k e b s ≡ with_bytes (writes k.text e b) s
-makes_at_row nodes k e b s w = ap (λ x. cond x (with_bytes (writes k.text e b) s) (after_actions nodes b (take e.adds (drop e.from k.acts)) s)) w
+makes_at_row nodes k e b s w = ap (λ x. cond x (with_bytes (writes k.text e b) s) (after_deeds nodes b (take e.adds (drop e.from k.acts)) s)) w
 
 abbrev as_text : Edge → Edge
 as_text e = record { next = e.next; from = e.from; byte_at = e.byte_at; adds = e.adds; alone = e.alone; kind = Text }

@@ -9,7 +9,7 @@ use Rattle.kex_machine.specs.Nodes.{Graph}
 use Rattle.kex_action.specs.declared.sheet.Sheet.{Sheet}
 use Rattle.kex_action.specs.Holdings.{LeadsByCode, Does, with_bytes, state_of}
 use Rattle.kex_action.specs.Actors.{Position, HasPerformed, BeginsRun, WentOn, TookAll}
-use Rattle.kex_action.specs.Actions.{after_actions}
+use Rattle.kex_action.specs.Deeds.{after_deeds}
 use Rattle.kex_action.specs.Sheets.{with_marked_bytes, AreMarks, IsSheet, IsBlank, state_with}
 use Rattle.kex_action.proofs.NodeSteps.{leads_on, stays}
 use Rattle.kex_action.proofs.ActorRuns.{begins_front}
@@ -108,7 +108,7 @@ trailed_more words nodes k p q qs e s z written f more = record {
     rest = code_over words qs
 
     made : (before : ActingState) → makes nodes k e q.byte before ≡ with_bytes bytes before
-    made before = ap (λ x. cond x (with_bytes bytes before) (after_actions nodes q.byte (take e.adds (drop e.from k.acts)) before)) written
+    made before = ap (λ x. cond x (with_bytes bytes before) (after_deeds nodes q.byte (take e.adds (drop e.from k.acts)) before)) written
 
     at : (x : List Symbol) → TakesCode nodes p.node ((first ++ rest) ++ x) → TakesCode nodes p.node (code_with_byte q.byte f.right.by.update.out ++ (rest ++ x))
     at x takes = subst (λ c. TakesCode nodes p.node (c ++ (rest ++ x))) (sym f.code) (subst (λ l. TakesCode nodes p.node l) (append_assoc first rest x) takes)
@@ -184,20 +184,20 @@ said_trail words k a s s' row row' ps out known sheet marks trail p r =
     }
 
 -- where an edge's actions are done
-pub said_acts : (words : List (List Part)) (k : Known) (a b : Position) (s s' : Sheet) (row : ℕ) (q : ByteWord) (e : Edge) (x y : List ℕ) → IsKnown (words_table words) a.machine k → q.word < k.width → slice_get k.edges (row + q.word) ≡ Some e → e.kind ≡ Acts → b.machine ≡ a.machine → b.refused ≡ a.refused → state_with s' y b.holding ≡ after_actions a.machine.nodes q.byte (take e.adds (drop e.from k.acts)) (state_with s x a.holding) → SaidOn k a b s s' row e.next (code_over words (q ∷ [])) x y
+pub said_acts : (words : List (List Part)) (k : Known) (a b : Position) (s s' : Sheet) (row : ℕ) (q : ByteWord) (e : Edge) (x y : List ℕ) → IsKnown (words_table words) a.machine k → q.word < k.width → slice_get k.edges (row + q.word) ≡ Some e → e.kind ≡ Acts → b.machine ≡ a.machine → b.refused ≡ a.refused → state_with s' y b.holding ≡ after_deeds a.machine.nodes q.byte (take e.adds (drop e.from k.acts)) (state_with s x a.holding) → SaidOn k a b s s' row e.next (code_over words (q ∷ [])) x y
 said_acts words k a b s s' row q e x y known lt is acts machine refused did p r =
     let nodes = a.machine.nodes in
     let f = fits words a.machine k row p q e known r lt is (ap is_known acts) in
     let actions = take e.adds (drop e.from k.acts) in
     let code = code_with_byte q.byte f.right.by.update.out in
     let whole : code ≡ word_code words q ++ [] = f.code ∙ sym (append-nil (word_code words q)) in
-    let made = λ (before : ActingState). ap (λ v. cond v (with_bytes (writes k.text e q.byte) before) (after_actions nodes q.byte actions before)) (ap is_written acts) in
+    let made = λ (before : ActingState). ap (λ v. cond v (with_bytes (writes k.text e q.byte) before) (after_deeds nodes q.byte actions before)) (ap is_written acts) in
     record {
       to = f.right.to;
       row_of = f.right.row;
-      performs = performs_taken (with_sheet a p.node s x) (with_sheet b f.right.to.node s' y) (word_code words q ++ []) (written_with a s x) (written_with b s' y) (λ d takes. moved a b p.node f.right.to.node s s' x y (after_actions nodes q.byte actions) machine refused did (word_code words q ++ []) (λ before.
+      performs = performs_taken (with_sheet a p.node s x) (with_sheet b f.right.to.node s' y) (word_code words q ++ []) (written_with a s x) (written_with b s' y) (λ d takes. moved a b p.node f.right.to.node s s' x y (after_deeds nodes q.byte actions) machine refused did (word_code words q ++ []) (λ before.
           let here = subst (λ c. TakesCode nodes p.node (c ++ d)) (sym whole) takes in
-          subst (λ c. LeadsByCode nodes p.node before c f.right.to.node (after_actions nodes q.byte actions before)) whole (subst (λ z. LeadsByCode nodes p.node before code f.right.to.node z) (made before) (f.right.does q.byte d here before))));
+          subst (λ c. LeadsByCode nodes p.node before c f.right.to.node (after_deeds nodes q.byte actions before)) whole (subst (λ z. LeadsByCode nodes p.node before code f.right.to.node z) (made before) (f.right.does q.byte d here before))));
     }
 
 -- where nothing is taken

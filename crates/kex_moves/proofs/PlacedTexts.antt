@@ -5,9 +5,9 @@ use Rattle.std.proofs.lemmas.List.{append-nil, set-append_left, set_past, set_at
 use Rattle.kex_code.specs.Registers.{Registers}
 use Rattle.kex_model.specs.Acting.{ActingState, after_append}
 use Rattle.kex_machine.specs.declared.MNode.{MNode}
-use Rattle.kex_action.specs.declared.action.Action.{Action}
+use Rattle.kex_action.specs.declared.deed.Deed.{Deed}
 use Rattle.kex_action.specs.Holdings.{with_bytes}
-use Rattle.kex_action.specs.Actions.{after_actions}
+use Rattle.kex_action.specs.Deeds.{after_deeds}
 use Rattle.kex_action.specs.Sheets.{with_buffer}
 use Rattle.kex_moves.specs.declared.edge.Edge.{Edge}
 use Rattle.kex_moves.specs.declared.edge.EdgeKind.{EdgeKind}
@@ -98,7 +98,7 @@ settles_written nodes k next p xs e n w room h = record {
   room = λ written. room;
   acts = λ acts. absurd (no_written e.kind acts w);
   alone = λ alone. w;
-  does = λ known b s. ap (λ l. with_bytes l s) (sym (h b)) ∙ sym (ap (λ x. cond x (with_bytes (writes k.text e b) s) (after_actions nodes b (take e.adds (drop e.from k.acts)) s)) w);
+  does = λ known b s. ap (λ l. with_bytes l s) (sym (h b)) ∙ sym (ap (λ x. cond x (with_bytes (writes k.text e b) s) (after_deeds nodes b (take e.adds (drop e.from k.acts)) s)) w);
   opens = λ opens. absurd (no_opens e.kind w opens);
 }
 
@@ -111,28 +111,28 @@ settles_text nodes k old next p xs e is place n f g l text others =
     let long : length k.text ≡ length old + length xs + 16 = ap length is ∙ omega (arith, length-append (old ++ xs) (replicate 16 0), length-append old xs) in
     settles_written nodes k next p xs e n (ap is_written text) (record { text = omega arith; byte_at = omega (arith, place_small xs p place); adds = omega (arith, place.count); keeps = λ q. cc; drops = λ q. cc; alone = λ q. cc }) (λ b. text_written old xs (replicate 16 0) k.text p b e is refl place.count f g l)
 
--- an edge at which actions are done settles
-pub settles_acts : (nodes : List MNode) (k : Known) (old actions : List Action) (next : ℕ) (e : Edge) → k.acts ≡ old ++ actions → e.next ≡ next → e.from ≡ length old → e.adds ≡ length actions → has_acts e.kind ≡ true → e.alone ≡ false → (e.kind ≡ Opens → (b : ℕ) (s : ActingState) → after_actions nodes b actions s ≡ with_buffer (b ∷ []) s) → Settles nodes k next (λ b. after_actions nodes b actions) e
-settles_acts nodes k old actions next e is n f l acts others opens =
-    let same : take e.adds (drop e.from k.acts) ≡ actions = ap₂ (λ i m. take m (drop i k.acts)) f l ∙ ap (λ q. take (length actions) (drop (length old) q)) is ∙ ap (take (length actions)) (drop_at old actions (length old) refl) ∙ take_all (length actions) actions (omega arith) in
-    let does = λ (b : ℕ) (s : ActingState). ap (λ q. after_actions nodes b q s) (sym same) ∙ sym (ap (λ x. cond x (with_bytes (writes k.text e b) s) (after_actions nodes b (take e.adds (drop e.from k.acts)) s)) (unwritten e.kind acts)) in
+-- an edge at which deeds are done settles
+pub settles_acts : (nodes : List MNode) (k : Known) (old deeds : List Deed) (next : ℕ) (e : Edge) → k.acts ≡ old ++ deeds → e.next ≡ next → e.from ≡ length old → e.adds ≡ length deeds → has_acts e.kind ≡ true → e.alone ≡ false → (e.kind ≡ Opens → (b : ℕ) (s : ActingState) → after_deeds nodes b deeds s ≡ with_buffer (b ∷ []) s) → Settles nodes k next (λ b. after_deeds nodes b deeds) e
+settles_acts nodes k old deeds next e is n f l acts others opens =
+    let same : take e.adds (drop e.from k.acts) ≡ deeds = ap₂ (λ i m. take m (drop i k.acts)) f l ∙ ap (λ q. take (length deeds) (drop (length old) q)) is ∙ ap (take (length deeds)) (drop_at old deeds (length old) refl) ∙ take_all (length deeds) deeds (omega arith) in
+    let does = λ (b : ℕ) (s : ActingState). ap (λ q. after_deeds nodes b q s) (sym same) ∙ sym (ap (λ x. cond x (with_bytes (writes k.text e b) s) (after_deeds nodes b (take e.adds (drop e.from k.acts)) s)) (unwritten e.kind acts)) in
     record {
       goes = λ known. n;
       room = λ written. absurd (no_written e.kind acts written);
-      acts = λ q. omega (arith, ap length is, length-append old actions);
+      acts = λ q. omega (arith, ap length is, length-append old deeds);
       alone = λ q. let clash : true ≡ false = sym q ∙ others in cc;
       does = λ known b s. does b s;
       opens = λ q b s. sym (does b s) ∙ opens q b s;
     }
 
 pub lengthens_none : (k : Known) → Lengthens k k
-lengthens_none k = record { text = []; acts = []; longer = ap₂ (λ (t : List ℕ) (a : List Action). record { classes = k.classes; width = k.width; shift = k.shift; pairs = k.pairs; edges = k.edges; text = t; acts = a }) (sym (append-nil k.text)) (sym (append-nil k.acts)) }
+lengthens_none k = record { text = []; acts = []; longer = ap₂ (λ (t : List ℕ) (a : List Deed). record { classes = k.classes; width = k.width; shift = k.shift; pairs = k.pairs; edges = k.edges; text = t; acts = a }) (sym (append-nil k.text)) (sym (append-nil k.acts)) }
 
 pub lengthens_text : (k : Known) (text more : List ℕ) → text ≡ k.text ++ more → Lengthens k (record { classes = k.classes; width = k.width; shift = k.shift; pairs = k.pairs; edges = k.edges; text = text; acts = k.acts })
-lengthens_text k text more e = record { text = more; acts = []; longer = ap₂ (λ (t : List ℕ) (a : List Action). record { classes = k.classes; width = k.width; shift = k.shift; pairs = k.pairs; edges = k.edges; text = t; acts = a }) e (sym (append-nil k.acts)) }
+lengthens_text k text more e = record { text = more; acts = []; longer = ap₂ (λ (t : List ℕ) (a : List Deed). record { classes = k.classes; width = k.width; shift = k.shift; pairs = k.pairs; edges = k.edges; text = t; acts = a }) e (sym (append-nil k.acts)) }
 
-pub lengthens_acts : (k : Known) (acts more : List Action) → acts ≡ k.acts ++ more → Lengthens k (record { classes = k.classes; width = k.width; shift = k.shift; pairs = k.pairs; edges = k.edges; text = k.text; acts = acts })
-lengthens_acts k acts more e = record { text = []; acts = more; longer = ap₂ (λ (t : List ℕ) (a : List Action). record { classes = k.classes; width = k.width; shift = k.shift; pairs = k.pairs; edges = k.edges; text = t; acts = a }) (sym (append-nil k.text)) e }
+pub lengthens_acts : (k : Known) (acts more : List Deed) → acts ≡ k.acts ++ more → Lengthens k (record { classes = k.classes; width = k.width; shift = k.shift; pairs = k.pairs; edges = k.edges; text = k.text; acts = acts })
+lengthens_acts k acts more e = record { text = []; acts = more; longer = ap₂ (λ (t : List ℕ) (a : List Deed). record { classes = k.classes; width = k.width; shift = k.shift; pairs = k.pairs; edges = k.edges; text = t; acts = a }) (sym (append-nil k.text)) e }
 
 -- an edge that settles what is the same settles
 pub settles_same : (nodes : List MNode) (k : Known) (next : ℕ) (f g : ℕ → ActingState → ActingState) (e : Edge) → ((b : ℕ) (s : ActingState) → g b s ≡ f b s) → Settles nodes k next f e → Settles nodes k next g e

@@ -8,7 +8,7 @@ use Rattle.kex_machine.specs.Nodes.{Graph}
 use Rattle.kex_action.specs.declared.sheet.Sheet.{Sheet}
 use Rattle.kex_action.specs.Holdings.{Holding, LeadsByCode, Does, with_bytes, state_of}
 use Rattle.kex_action.specs.Actors.{Position, WentOn}
-use Rattle.kex_action.specs.Actions.{after_actions}
+use Rattle.kex_action.specs.Deeds.{after_deeds}
 use Rattle.kex_action.specs.Sheets.{with_buffer, with_marked_bytes, AreMarks, IsSheet, IsBlank, state_with}
 use Rattle.kex_action.proofs.ActorRuns.{went_on, position}
 use Rattle.kex_action.proofs.Sheets.{laid_none, laid_adds}
@@ -81,20 +81,20 @@ reached_run t k a s s' row row' at piece out known bytes sheet marks e q n h =
     }
 
 -- where an edge's actions are done
-pub reached_acts : (t : Transducer) (k : Known) (a b : Position) (s s' : Sheet) (row class byte : ℕ) (e : Edge) (x y : List ℕ) → slice_get t.classes byte ≡ Some class → ((p : Pair) → IsPairRow k row p → IsRight t a.machine.nodes k p class e) → is_written e.kind ≡ false → b.machine ≡ a.machine → b.refused ≡ a.refused → state_with s' y b.holding ≡ after_actions a.machine.nodes byte (take e.adds (drop e.from k.acts)) (state_with s x a.holding) → ReachedOn t k k a b s s' row e.next (byte ∷ []) x y
+pub reached_acts : (t : Transducer) (k : Known) (a b : Position) (s s' : Sheet) (row class byte : ℕ) (e : Edge) (x y : List ℕ) → slice_get t.classes byte ≡ Some class → ((p : Pair) → IsPairRow k row p → IsRight t a.machine.nodes k p class e) → is_written e.kind ≡ false → b.machine ≡ a.machine → b.refused ≡ a.refused → state_with s' y b.holding ≡ after_deeds a.machine.nodes byte (take e.adds (drop e.from k.acts)) (state_with s x a.holding) → ReachedOn t k k a b s s' row e.next (byte ∷ []) x y
 reached_acts t k a b s s' row class byte e x y is right acts machine refused did q n h =
     let r = right h.0 h.1 in
     let m = r.to.node in
     record {
       node = m;
-      reached = subst (λ z. Reached t k (with_sheet a n s x) (with_sheet b m s' y) z e.next (byte ∷ []) (written_with a s x) (written_with b s' y)) h.2 (reached_act t k (with_sheet a n s x) (with_sheet b m s' y) h.0 class byte e (written_with a s x) (written_with b s' y) is r acts h.3 machine refl (λ d does. moved a b n m s s' x y (after_actions a.machine.nodes byte (take e.adds (drop e.from k.acts))) machine refused did d does));
+      reached = subst (λ z. Reached t k (with_sheet a n s x) (with_sheet b m s' y) z e.next (byte ∷ []) (written_with a s x) (written_with b s' y)) h.2 (reached_act t k (with_sheet a n s x) (with_sheet b m s' y) h.0 class byte e (written_with a s x) (written_with b s' y) is r acts h.3 machine refl (λ d does. moved a b n m s s' x y (after_deeds a.machine.nodes byte (take e.adds (drop e.from k.acts))) machine refused did d does));
     }
 
 -- where an edge opens a buffer
 pub reached_opens : (t : Transducer) (k : Known) (a : Position) (s s' : Sheet) (row class byte : ℕ) (e : Edge) (x : List ℕ) → slice_get t.classes byte ≡ Some class → ((p : Pair) → IsPairRow k row p → IsRight t a.machine.nodes k p class e) → e.kind ≡ Opens → ((out : List ℕ) (h : Holding) → state_with s' out h ≡ with_buffer (byte ∷ []) (state_with s out h)) → ReachedOn t k k a a s s' row e.next (byte ∷ []) x x
 reached_opens t k a s s' row class byte e x is right opens opened q n h =
     let z = state_with s x a.holding in
-    let acts = after_actions a.machine.nodes byte (take e.adds (drop e.from k.acts)) z in
+    let acts = after_deeds a.machine.nodes byte (take e.adds (drop e.from k.acts)) z in
     let unwritten : is_written e.kind ≡ false = ap is_written opens in
     let made : with_buffer (byte ∷ []) z ≡ acts = sym ((right h.0 h.1).opens opens byte z) ∙ ap (λ w. cond w (with_bytes (writes k.text e byte) z) acts) unwritten in
     reached_acts t k a a s s' row class byte e x x is right unwritten refl refl (opened x a.holding ∙ made) q n h

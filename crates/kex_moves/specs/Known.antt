@@ -6,8 +6,10 @@ use Rattle.kex_model.specs.Acting.{ActingState}
 use Rattle.kex_machine.specs.declared.MNode.{MNode}
 use Rattle.kex_machine.specs.Nodes.{Graph}
 use Rattle.kex_action.specs.declared.action.Action.{Action}
+use Rattle.kex_action.specs.declared.deed.Deed.{Deed}
 use Rattle.kex_action.specs.Holdings.{Does, with_bytes}
 use Rattle.kex_action.specs.Actions.{after_actions}
+use Rattle.kex_action.specs.Deeds.{after_deeds}
 use Rattle.kex_action.specs.Sheets.{with_buffer}
 use Rattle.kex_sst.specs.declared.table.Transition.{Transition}
 use Rattle.kex_sst.specs.Tables.{Transducer, transition_of}
@@ -20,7 +22,7 @@ use Rattle.kex_moves.specs.Runs.{Rows}
 use Rattle.kex_held.specs.Walks.{TakesCode, code_with_byte}
 
 -- the class of each byte, how long a row is (2 to the power of `shift`), the pairs of a state and a
--- node, for each of them a row of edges by class, and the texts and actions of the edges
+-- node, for each of them a row of edges by class, and the texts and deeds of the edges
 pub record Known : Type 0 where
   pub classes : List ℕ
   pub width : ℕ
@@ -28,12 +30,12 @@ pub record Known : Type 0 where
   pub pairs : List Pair
   pub edges : List Edge
   pub text : List ℕ
-  pub acts : List Action
+  pub acts : List Deed
 
 abbrev pub rows_of : Known → Rows
 rows_of k = record { classes = k.classes; edges = k.edges; text = k.text }
 
--- the edge leads to a row, its text or its actions lie within, and it is written where it is alone
+-- the edge leads to a row, its text or its deeds lie within, and it is written where it is alone
 pub record IsEdge (k : Known) (e : Edge) : Type 0 where
   pub next : is_known e.kind ≡ true → e.next + k.width ≤ length k.edges
   pub begins : is_known e.kind ≡ true → (number : ℕ) × (e.next ≡ number * k.width)
@@ -71,7 +73,7 @@ HasRowFor k row state node = (p : Pair) × IsPairRow k row p × (p.state ≡ sta
 -- what an edge makes of a state of the actor where the byte b is read
 abbrev pub makes : List MNode → Known → Edge → ℕ → ActingState → ActingState
 makes nodes k e b s = if is_written e.kind then with_bytes (writes k.text e b) s
-    else after_actions nodes b (take e.adds (drop e.from k.acts)) s
+    else after_deeds nodes b (take e.adds (drop e.from k.acts)) s
 
 -- an edge that opens makes just a buffer with the byte in it
 abbrev pub IsOpening : List MNode → Known → Edge → Type 0
@@ -130,10 +132,10 @@ pub record Widens (old new : Known) (state node : ℕ) : Type 0 where
   pub of : All (λ (p : Pair). (p.state ≡ state) × (p.node ≡ node)) pairs
   pub unknown : All IsUnlearnt edges
 
--- texts and actions are added
+-- texts and deeds are added
 pub record Lengthens (old new : Known) : Type 0 where
   pub text : List ℕ
-  pub acts : List Action
+  pub acts : List Deed
   pub longer : new ≡ record {
     classes = old.classes;
     width = old.width;

@@ -4,7 +4,7 @@ ghost use Rattle.std.specs.Prelude.{◌≡◌, ◌<◌, ◌≤◌, ◌+◌, ◌*
 ghost use Rattle.std.specs.Prelude.{IfOk, IfSome, OnOk, length, take, drop};
 ghost use Rattle.kex_sst.specs.Tables.{Transducer};
 ghost use Rattle.kex_action.specs.Holdings.{Holding, state_of};
-ghost use Rattle.kex_action.specs.Actions.{after_actions};
+ghost use Rattle.kex_action.specs.Deeds.{after_deeds};
 ghost use Rattle.kex_action.specs.Actors.{Position};
 ghost use Rattle.kex_action.specs.Sheets.{IsSheet, IsBlank, IsAsLong, with_buffer, state_with};
 ghost use Rattle.kex_moves.specs.declared.edge.EdgeKind.{EdgeKind};
@@ -19,8 +19,8 @@ use crate::edges::Edges;
 use crate::leap::leap_at;
 use crate::learn::{learn_edge, row_for};
 use crate::run::{Halt, RowPoint};
-use kex_action::action::Action;
 use kex_action::actor::Actor;
+use kex_action::deed::Deed;
 use kex_action::sheet::Sheet;
 use kex_code::memory::Memory;
 use kex_leaps::leaps::Leaps;
@@ -79,8 +79,8 @@ fn open(sheet: &mut Sheet, byte: u8) -> Result<(), Memory>
     ensures sheet { OnOk result (IsSheet sheet.new × IsAsLong sheet.old sheet.new) }
     ensures used { sheet.new.used ≤ sheet.old.used + 1 }
 {
+    sheet.open()?;
     let used = sheet.used;
-    sheet.marks.push(used)?;
     sheet.bytes[used] = byte;
     sheet.used = used + 1;
     Ok(())
@@ -108,12 +108,12 @@ fn along(edges: &Edges, sheet: &mut Sheet, row: usize, piece: &[u8]) -> Halt
     halt
 }
 
-// Does the rest of an edge's actions that can't be done on a sheet. The edge leads to the row
+// Does the rest of an edge's deeds that can't be done on a sheet. The edge leads to the row
 // `next`.
 fn act_rest(
     edges: &Edges,
     next: usize,
-    rest: &[Action],
+    rest: &[Deed],
     byte: u8,
     actor: &mut Actor,
     sheet: &mut Sheet,
@@ -124,7 +124,7 @@ fn act_rest(
         × (p.node < length actor.old.machine.nodes) }
     requires sheet { IsSheet sheet.old }
     ensures did { OnOk result (state_of out.new.items actor.new.holding
-        ≡ after_actions actor.old.machine.nodes byte rest.now
+        ≡ after_deeds actor.old.machine.nodes byte rest.now
         (state_with sheet.old out.old.items actor.old.holding)) }
     ensures none { OnOk result (IsBlank sheet.new) }
     ensures room { IsAsLong sheet.old sheet.new }
@@ -137,7 +137,7 @@ fn act_rest(
     actor.act(node, rest, byte, out)
 }
 
-/// Does the actions of an edge at which a byte was read.
+/// Does the deeds of an edge at which a byte was read.
 #[inline(always)]
 pub fn act(
     edges: &Edges,
@@ -153,22 +153,22 @@ pub fn act(
     requires edge { IsEdge edges.now edge × (edge.kind ≡ EdgeKind.Acts) }
     requires sheet { IsSheet sheet.old }
     ensures did { OnOk result (state_with sheet.new out.new.items actor.new.holding
-        ≡ after_actions actor.old.machine.nodes byte (take edge.adds
+        ≡ after_deeds actor.old.machine.nodes byte (take edge.adds
         (drop edge.from edges.now.acts)) (state_with sheet.old out.old.items actor.old.holding)) }
     ensures sheet { OnOk result (IsSheet sheet.new × IsAsLong sheet.old sheet.new) }
     ensures same { (actor.new.machine ≡ actor.old.machine)
         × (actor.new.refused ≡ actor.old.refused) }
     ensures usable { OnOk result (IsTrue actor.new.usable) }
 {
-    let actions = edges.acts_of(edge);
-    let count = actor.act_on(actions, byte, sheet)?;
-    if count < actions.len() {
-        act_rest(edges, edge.next, &actions[count..], byte, actor, sheet, out)?;
+    let deeds = edges.acts_of(edge);
+    let count = actor.act_on(deeds, byte, sheet)?;
+    if count < deeds.len() {
+        act_rest(edges, edge.next, &deeds[count..], byte, actor, sheet, out)?;
     }
     Ok(())
 }
 
-// Takes a byte with its edge, if that opens a buffer or has actions. It stops at another one, and
+// Takes a byte with its edge, if that opens a buffer or has deeds. It stops at another one, and
 // where much is on the sheet.
 #[inline(always)]
 fn act_at(
@@ -223,7 +223,7 @@ fn act_at(
 }
 
 // Goes along edges while they are written, on a sheet, and along the next one if that opens a
-// buffer or has actions.
+// buffer or has deeds.
 #[inline(always)]
 fn act_next(
     edges: &Edges,

@@ -10,9 +10,9 @@ pub enum EdgeKind {
     Drop,
     /// A text with the byte at a place in it, perhaps the byte alone or nothing.
     Text,
-    /// Actions, which the actor does.
+    /// Deeds, which the actor does.
     Acts,
-    /// Actions that open a buffer and write the byte alone.
+    /// Deeds that open a buffer and write the byte alone.
     Opens,
     /// None of these: a plain step is taken.
     Plain,

@@ -6,7 +6,7 @@ ghost use Rattle.std.specs.Prelude.{replicate, slice_get, Some, slice_set, true}
 ghost use Rattle.kex_machine.specs.declared.MNode.{MNode};
 ghost use Rattle.kex_action.specs.Holdings.{with_bytes};
 ghost use Rattle.kex_model.specs.Acting.{ActingState};
-ghost use Rattle.kex_action.specs.Actions.{after_actions};
+ghost use Rattle.kex_action.specs.Deeds.{after_deeds};
 ghost use Rattle.kex_action.specs.Sheets.{with_buffer};
 ghost use Rattle.kex_moves.specs.Edges.{is_written, has_acts, IsUnlearnt, IsAtRow};
 ghost use Rattle.kex_moves.specs.Runs.{StopsAt, stop_behind, run_of};
@@ -17,7 +17,7 @@ ghost use Rattle.kex_moves.specs.Known.{Settles, Widens, Lengthens, Forgets};
 use crate::edge::{Edge, EdgeKind};
 use crate::follow::follow;
 use crate::run::{Halt, SheetPoint, SheetStart, run};
-use kex_action::action::Action;
+use kex_action::deed::Deed;
 use kex_code::memory::Memory;
 use kex_script::piece::ByteWord;
 use std::alloc::Global;
@@ -76,7 +76,7 @@ pub struct Edges {
     pairs: Vec<Pair>,
     edges: Vec<Edge>,
     text: Vec<u8>,
-    acts: Vec<Action>,
+    acts: Vec<Deed>,
     learnt: usize,
     refused: usize,
 }
@@ -342,8 +342,8 @@ impl Edges {
         self.classes[byte as usize]
     }
 
-    /// The actions of an edge.
-    pub fn acts_of(&self, edge: Edge) -> &[Action]
+    /// The deeds of an edge.
+    pub fn acts_of(&self, edge: Edge) -> &[Deed]
         requires { edge.from + edge.adds ≤ length self.now.acts }
         ensures { result.now ≡ take edge.adds (drop edge.from self.now.acts) }
     {
@@ -388,27 +388,22 @@ impl Edges {
         })
     }
 
-    /// An edge to `next` at which the actions are done. The caller says whether they only open a
+    /// An edge to `next` at which the deeds are done. The caller says whether they only open a
     /// buffer and write the byte.
-    pub fn acts_edge(
-        &mut self,
-        next: usize,
-        actions: &[Action],
-        opens: bool,
-    ) -> Result<Edge, Memory>
+    pub fn acts_edge(&mut self, next: usize, deeds: &[Deed], opens: bool) -> Result<Edge, Memory>
         ensures ordered { IfOk result (λ e. IsOrdered self.new) }
         ensures longer { IfOk result (λ e. Lengthens self.old self.new) }
         ensures settles { IfOk result (λ e. (nodes : List MNode) → (IsTrue opens → (b : ℕ)
-            (s : ActingState) → after_actions nodes b actions.now s ≡ with_buffer (b ∷ []) s)
-            → Settles nodes self.new next (λ b. after_actions nodes b actions.now) e) }
+            (s : ActingState) → after_deeds nodes b deeds.now s ≡ with_buffer (b ∷ []) s)
+            → Settles nodes self.new next (λ b. after_deeds nodes b deeds.now) e) }
     {
         let Some(from) = place_behind(self.acts.len(), MOST_ACTS) else {
             return Ok(Edge::plain());
         };
-        let Ok(adds) = u8::try_from(actions.len()) else {
+        let Ok(adds) = u8::try_from(deeds.len()) else {
             return Ok(Edge::plain());
         };
-        self.acts.extend_from_slice(actions)?;
+        self.acts.extend_from_slice(deeds)?;
         Ok(Edge {
             next,
             from,

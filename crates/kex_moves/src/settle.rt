@@ -1,10 +1,12 @@
 // What is done along a walk, as an edge.
 
-ghost use Rattle.std.specs.Prelude.{◌≡◌, ℕ, [], ◌∷◌, IfOk, IfSome, IsTrue, slice_set};
+ghost use Rattle.std.specs.Prelude.{◌≡◌, ℕ, List, [], ◌∷◌, IfOk, IfSome, IsTrue, slice_set};
 ghost use Rattle.kex_model.specs.Acting.{ActingState, after_effect};
+ghost use Rattle.kex_machine.specs.declared.MNode.{MNode};
 ghost use Rattle.kex_machine.specs.Nodes.{node_moves, effect_of};
 ghost use Rattle.kex_action.specs.Holdings.{with_bytes};
 ghost use Rattle.kex_action.specs.Actions.{after_move, after_action, after_actions};
+ghost use Rattle.kex_action.specs.Deeds.{after_deeds};
 ghost use Rattle.kex_action.specs.Sheets.{with_buffer};
 ghost use Rattle.kex_moves.specs.Known.{HasPlace, IsOrdered, Settles, Lengthens};
 ghost use Rattle.kex_moves.specs.Drafts.{IsDraft, Drafts, IsTurn, KeepsActions};
@@ -12,6 +14,7 @@ ghost use Rattle.kex_moves.specs.Drafts.{IsDraft, Drafts, IsTurn, KeepsActions};
 use crate::edge::Edge;
 use crate::edges::Edges;
 use kex_action::action::Action;
+use kex_action::deed::{Deed, deed_of};
 use kex_code::memory::Memory;
 use kex_machine::{Effect, MNode, Trimmed};
 use std::alloc::Global;
@@ -219,21 +222,28 @@ fn kept_of(alloc: Global, machine: &Trimmed, actions: &[Action]) -> Result<Vec<A
     Ok(kept)
 }
 
-// Whether the actions only open a buffer and write the byte.
-fn only_open(machine: &Trimmed, actions: &[Action]) -> bool
-    ensures { IsTrue result → (b : ℕ) (s : ActingState)
-        → after_actions machine.now.nodes b actions.now s ≡ with_buffer (b ∷ []) s }
+// The deeds of actions.
+fn deeds_of(alloc: Global, machine: &Trimmed, actions: &[Action]) -> Result<Vec<Deed>, Memory>
+    ensures { IfOk result (λ deeds. (b : ℕ) (s : ActingState)
+        → after_actions machine.now.nodes b actions.now s
+        ≡ after_deeds machine.now.nodes b deeds.items s) }
 {
-    let [Action::Node(n), Action::Byte] = actions else {
-        return false;
-    };
-    match effect_at(machine, *n) {
-        Some(Effect::Open) => true,
-        _ => false,
+    let mut deeds = Vec::new(alloc);
+    for action in actions {
+        deeds.push(deed_of(machine, *action))?;
     }
+    Ok(deeds)
 }
 
-/// The edge to `next` that does what was noted. Its text or its actions are kept.
+// Whether the deeds only open a buffer and write the byte.
+fn only_open(deeds: &[Deed]) -> bool
+    ensures { IsTrue result → (nodes : List MNode) (b : ℕ) (s : ActingState)
+        → after_deeds nodes b deeds.now s ≡ with_buffer (b ∷ []) s }
+{
+    matches!(deeds, [Deed::Open, Deed::Byte])
+}
+
+/// The edge to `next` that does what was noted. Its text or its deeds are kept.
 pub fn settle(
     alloc: Global,
     machine: &Trimmed,
@@ -251,8 +261,9 @@ pub fn settle(
         Some(place) => edges.text_edge(next, &bytes, place),
         None => {
             let kept = kept_of(alloc, machine, actions)?;
-            let opens = only_open(machine, &kept);
-            edges.acts_edge(next, &kept, opens)
+            let deeds = deeds_of(alloc, machine, &kept)?;
+            let opens = only_open(&deeds);
+            edges.acts_edge(next, &deeds, opens)
         }
     }
 }

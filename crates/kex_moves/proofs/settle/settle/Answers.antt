@@ -3,6 +3,7 @@ use Rattle.kex_model.specs.Acting.{ActingState}
 use Rattle.kex_machine.specs.declared.MNode.{MNode}
 use Rattle.kex_action.specs.Holdings.{with_bytes}
 use Rattle.kex_action.specs.Actions.{after_actions}
+use Rattle.kex_action.specs.Deeds.{after_deeds}
 use Rattle.kex_action.specs.Sheets.{with_buffer}
 use Rattle.kex_moves.specs.declared.edge.Edge.{Edge}
 use Rattle.kex_moves.specs.Known.{Settles}
@@ -24,7 +25,7 @@ pub returns-clause-settles : goal.returns-clause-settles
 returns-clause-settles c =
     let ns = c.args.machine.now.nodes in
     let k = c.acts_edge.new.self in
-    let kept = c.deref-in-None-2.result.now in
-    let same = λ (b : ℕ) (s : ActingState). c.in_ok-kept-in-None.ensures {u = tt} b s ∙ ap (λ l. after_actions ns b l s) (sym c.deref-in-None-2.ensures.value) in
-    let told = λ (q : IsTrue c.only_open-opens.result) (b : ℕ) (s : ActingState). ap (λ l. after_actions ns b l s) (c.deref-in-None-2.ensures.value ∙ sym c.deref-in-None.ensures.value) ∙ c.only_open-opens.ensures q b s in
-    map_ok (λ (e : Edge). (nodes : List MNode) → (IsTrue c.only_open-opens.result → (b : ℕ) (s : ActingState) → after_actions nodes b kept s ≡ with_buffer (b ∷ []) s) → Settles nodes k c.args.next (λ b. after_actions nodes b kept) e) (λ (e : Edge). Settles ns k c.args.next (λ b. after_actions ns b c.args.actions.now) e) c.acts_edge.result (λ e h. settles_same ns k c.args.next (λ b. after_actions ns b kept) (λ b. after_actions ns b c.args.actions.now) e same (h ns told)) c.acts_edge.ensures.settles
+    let deeds = c.deref-in-None-3.result.now in
+    let same = λ (b : ℕ) (s : ActingState). c.in_ok-kept-in-None.ensures {u = tt} b s ∙ ap (λ l. after_actions ns b l s) (sym c.deref-in-None.ensures.value) ∙ c.in_ok-deeds-in-None.ensures {u = tt} b s ∙ ap (λ l. after_deeds ns b l s) (sym c.deref-in-None-3.ensures.value) in
+    let told = λ (q : IsTrue c.only_open-opens.result) (b : ℕ) (s : ActingState). ap (λ l. after_deeds ns b l s) (c.deref-in-None-3.ensures.value ∙ sym c.deref-in-None-2.ensures.value) ∙ c.only_open-opens.ensures q ns b s in
+    map_ok (λ (e : Edge). (nodes : List MNode) → (IsTrue c.only_open-opens.result → (b : ℕ) (s : ActingState) → after_deeds nodes b deeds s ≡ with_buffer (b ∷ []) s) → Settles nodes k c.args.next (λ b. after_deeds nodes b deeds) e) (λ (e : Edge). Settles ns k c.args.next (λ b. after_actions ns b c.args.actions.now) e) c.acts_edge.result (λ e h. settles_same ns k c.args.next (λ b. after_deeds ns b deeds) (λ b. after_actions ns b c.args.actions.now) e same (h ns told)) c.acts_edge.ensures.settles

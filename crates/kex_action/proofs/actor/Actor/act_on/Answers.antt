@@ -11,6 +11,6 @@ invariant_of-self-2 c =
       in_range = c.self.invariant.in_range;
       fits = λ u. record {
         node = fits.node;
-        count = kept_count a.machine.now.nodes c.args.byte (take c.in_ok-count.count c.args.actions.now) c.args.sheet.now c.act_on.new.sheet a.store c.act_on.new.store ((c.in_ok-count.ensures {u = tt}).did []) ∙ fits.count;
+        count = kept_count a.machine.now.nodes c.args.byte (take c.in_ok-count.count c.args.deeds.now) c.args.sheet.now c.act_on.new.sheet a.store c.act_on.new.store ((c.in_ok-count.ensures {u = tt}).did []) ∙ fits.count;
       };
     }

@@ -12,9 +12,6 @@ use Rattle.kex_action.proofs.store.Store.perform_on.Goals as goal
 pub returns-in-Lit-clause-did : goal.returns-in-Lit-clause-did
 returns-in-Lit-clause-did c = λ t out. let z = state_with c.args.sheet.now out c.args.self.now in wrote c.args.sheet.now c.write.new.self c.as_slice.result.now out c.args.self.now c.requires.sheet (c.write.ensures.written t) ∙ ap (λ b. with_bytes b z) c.as_slice.ensures ∙ sym (ap (λ e. after_effect (effect_of e) z) c.in-Lit.is)
 
-pub returns-in-Write-clause-did : goal.returns-in-Write-clause-did
-returns-in-Write-clause-did c = λ t out. wrote_register c.args.sheet.now c.write_buffer.new.self c.index.result.now out c.in-Write.r c.args.self.now c.requires.sheet (c.write_buffer.ensures.written t) (c.index.ensures ∙ get_or-any c.self.inside.registers.items c.in-Write.r c.index.result.now [] (subst (λ e. HasRegisters (length c.self.inside.registers.items) e) c.in-Write.is (subst (λ h. HasRegisters (length h.registers) c.args.effect.now) (sym c.self.view_is) c.requires.registers)) ∙ ap (λ h. content_of h.registers c.in-Write.r) c.self.view_is) ∙ sym (ap (λ e. after_effect (effect_of e) (state_with c.args.sheet.now out c.args.self.now)) c.in-Write.is)
-
 pub returns-in_ok-set-in-Set-clause-did : goal.returns-in_ok-set-in-Set-clause-did
 returns-in_ok-set-in-Set-clause-did c = λ t out. let z = state_with c.args.sheet.now out c.args.self.now in sets c.args.sheet.now out c.args.self.now c.set.new.self c.in-Set.r c.as_slice-in-Set.result.now (c.in_ok-set-in-Set.ensures {u = tt}) ∙ ap (λ ps. after_effect (set_to c.in-Set.r ps) z) c.as_slice-in-Set.ensures ∙ sym (ap (λ e. after_effect (effect_of e) z) c.in-Set.is)
 
