@@ -28,7 +28,7 @@ is_known Opens = true
 is_known Plain = false
 is_known Unknown = false
 
--- actions are done
+-- deeds are done
 abbrev pub has_acts : EdgeKind → Bool
 has_acts Keep = false
 has_acts Drop = false

@@ -22,7 +22,7 @@ pub enum EdgeKind {
 
 /// Where a byte leads: to the row that begins at `next`. Of a text of 16 bytes that begins at
 /// `from` as many count as it `adds`, with the byte read over the one at `byte_at` (16 where it
-/// isn't written); or as many actions as it `adds` are done, from number `from` on. It is `alone`
+/// isn't written); or as many deeds as it `adds` are done, from number `from` on. It is `alone`
 /// if the byte is written and nothing else.
 #[derive(Clone, Copy, Debug, PartialEq, Eq)]
 pub struct Edge {

@@ -36,7 +36,7 @@ pub struct Pair {
 /// No pair.
 const NO_PAIR: u32 = 4_294_967_295;
 
-/// How many edges there may be. With pairs, texts and actions they take less than 64 MiB.
+/// How many edges there may be. With pairs, texts and deeds they take less than 64 MiB.
 const MOST_EDGES: usize = 2_097_152;
 
 /// How many pairs there may be.
@@ -45,7 +45,7 @@ const MOST_PAIRS: usize = 524_288;
 /// How long the texts together may be before one more is added, which takes 32 bytes at most.
 const MOST_TEXT: usize = 8_388_576;
 
-/// How many actions there may be before those of one more edge are added, which are 255 at most.
+/// How many deeds there may be before those of one more edge are added, which are 255 at most.
 const MOST_ACTS: usize = 1_048_321;
 
 /// How many pairs of one state or node are looked at, and there are.
@@ -158,7 +158,7 @@ fn kind_of(place: usize, count: usize) -> EdgeKind
     EdgeKind::Text
 }
 
-// The kind of an edge with actions. Those that open a buffer and write the byte alone have a kind
+// The kind of an edge with deeds. Those that open a buffer and write the byte alone have a kind
 // of their own where edges are those of bytes.
 fn kind_of_acts(opens: bool, bytes: bool) -> EdgeKind
     ensures acts { has_acts result ≡ true }

@@ -6,7 +6,7 @@
 //! by what was learnt of each word at each node.
 //!
 //! ```text
-//! byte ─ class ─► edge in the row of a state and a node ─► text or actions, and the next row
+//! byte ─ class ─► edge in the row of a state and a node ─► text or deeds, and the next row
 //! ```
 //!
 //! `main := (~/a/ "x" | /b/)*` is fed `abbab`. At a the edge isn't known: the table's update says

@@ -62,7 +62,7 @@ fn along(edges: &Edges, sheet: &mut Sheet, row: usize, pieces: &[ByteWord]) -> R
     }
 }
 
-// Takes a piece at whose edge actions are done. Nothing is taken at another one.
+// Takes a piece at whose edge deeds are done. Nothing is taken at another one.
 #[inline(always)]
 fn act_next(
     edges: &Edges,
@@ -111,7 +111,7 @@ fn act_next(
     }
 }
 
-// Goes on from a row over some of the pieces, and does the actions of one more.
+// Goes on from a row over some of the pieces, and does the deeds of one more.
 fn go_on(
     edges: &Edges,
     sheet: &mut Sheet,
