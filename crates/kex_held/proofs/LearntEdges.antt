@@ -15,7 +15,7 @@ use Rattle.kex_held.specs.LearntEdges.{AreTrackedAny, ComesToLinks, AreComing, I
 use Rattle.kex_held.proofs.WindowSlices.{edge_points_rise, count_edge_points}
 use Rattle.kex_held.proofs.HeldRows.{links_right}
 
-have_ends : (w points : List ℕ) (xs : List HeldList) → HaveEnds xs (tree_edges_of w points xs)
+pub have_ends : (w points : List ℕ) (xs : List HeldList) → HaveEnds xs (tree_edges_of w points xs)
 have_ends w points [] = tt
 have_ends w points (x ∷ xs) = (refl, refl, have_ends w points xs)
 
@@ -26,7 +26,7 @@ tracked nodes olds edges (xs ∷ xss) [] h a = absurd a
 tracked nodes olds edges (xs ∷ xss) (v ∷ vs) h a = (a.0 edges h, tracked nodes olds edges xss vs h a.1)
 
 module _ (nodes : List MNode) (r : HeldRow) (w marks : List ℕ) (b : ℕ) (h : FitsWindow w marks r) where
-  comes : (links : List Link) (items : List HeldItem) → ComesToLinks nodes r links items → MakeSame nodes (acts_by_links (state_over w marks r).edges b links) (acts_over (w ++ b ∷ []) (edge_points w marks) items)
+  pub comes : (links : List Link) (items : List HeldItem) → ComesToLinks nodes r links items → MakeSame nodes (acts_by_links (state_over w marks r).edges b links) (acts_over (w ++ b ∷ []) (edge_points w marks) items)
   comes links items c =
       let rising = subst (λ n. AreRising n (edge_points w marks)) (sym (length-append w (b ∷ []))) (edge_points_rise w marks h.rising) in
       let count : length (edge_points w marks) ≡ r.marks + 2 = count_edge_points w marks ∙ ap (λ n. n + 2) h.count in

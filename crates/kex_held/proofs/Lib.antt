@@ -10,3 +10,4 @@ pub mod MarkedTexts
 pub mod LearntEdges
 pub mod EdgeLists
 pub mod RowRuns
+pub mod RowEnds

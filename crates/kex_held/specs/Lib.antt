@@ -8,3 +8,4 @@ pub mod HeldRows
 pub mod Sealed
 pub mod Windows
 pub mod LearntEdges
+pub mod RowEnds

@@ -19,7 +19,7 @@ use std::alloc::Global;
 const MOST_MARKS: usize = 60;
 
 /// How many items a list may have.
-const MOST_ITEMS: usize = 64;
+pub const MOST_ITEMS: usize = 64;
 
 // Whether a list is longer than one may be.
 fn has_long(texts: &[RegisterText]) -> bool {

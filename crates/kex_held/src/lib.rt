@@ -2,6 +2,7 @@
 //! Uses tables, machines and the actor's actions.
 #![tactic(auto)]
 
+pub mod end;
 pub mod item;
 mod keep;
 pub mod learn;
