@@ -5,6 +5,7 @@ ghost use Rattle.std.specs.Prelude.{IsTrue, length, slice_get, slice_set, replic
 ghost use Rattle.kex_byteset.specs.Classes.{class_count};
 ghost use Rattle.kex_held.specs.HeldRows.{HeldRow};
 ghost use Rattle.kex_held.specs.LearntEdges.{IsRowWithin};
+ghost use Rattle.kex_held.specs.RowEnds.{IsRightEnd};
 ghost use Rattle.kex_held_rows.specs.declared.note.RowNote.TheVariants.{Unknown};
 ghost use Rattle.kex_held_rows.specs.Books.{RowNotes, rows_in, bare_row, IsNoteOf, IsNoteRight};
 ghost use Rattle.kex_held_rows.specs.Books.{KeepsRows};
@@ -12,6 +13,7 @@ ghost use Rattle.kex_held_rows.specs.Books.{KeepsRows};
 use crate::note::{KnownEdge, KnownRow, RowNote};
 use crate::same::is_same_row;
 use kex_code::memory::Memory;
+use kex_held::end::{LearntEnd, learn_end};
 use kex_held::learn::learn_edge;
 use kex_held::row::TextRow;
 use kex_machine::Trimmed;
@@ -296,5 +298,17 @@ impl<'p> RowLedger<'p> {
         let note = self.note_for(number, class)?;
         put_note(&mut self.rows, number, class as usize, note);
         Ok(())
+    }
+
+    /// What the end of the input does at a row. It is learnt each time it is asked for.
+    pub fn end_of(&self, number: usize) -> Result<Option<LearntEnd>, Memory>
+        requires number { number < length self.now.rows }
+        ensures right { IfOk result (λ o. IfSome o (λ e. (r : HeldRow)
+            → slice_get (rows_in self.now.rows) number ≡ Some r
+            → IsRightEnd self.now.table self.now.machine.nodes r e)) }
+        ensures node { IfOk result (λ o. IfSome o (λ e. e.node < length self.now.machine.nodes)) }
+    {
+        let row = self.row_at(number);
+        learn_end(self.alloc, self.table, self.machine, row)
     }
 }
