@@ -1,13 +1,16 @@
 -- What is done of a leap, act by act.
-use Rattle.std.proofs.Common.{◌≡◌, ℕ, zero, suc, ◌<◌, ◌≤◌, ◌+◌, ◌-◌, List, [], ◌∷◌, ◌++◌, get_or, take, drop, length, reverse, refl, sym, ap, ap₂, subst, ◌∙◌, arith, take-append-drop}
+use Rattle.std.proofs.Common.{◌≡◌, ℕ, zero, suc, ◌<◌, ◌≤◌, ◌+◌, ◌-◌, List, [], ◌∷◌, ◌++◌, get_or, take, drop, length, reverse, refl, sym, ap, ap₂, subst, ◌∙◌, arith, append-nil, take-append-drop}
 use Rattle.std.proofs.lemmas.List.{take_more, take_all, map-append, drop-take, length-append, length-drop, get_or_append_left}
 use Rattle.std.proofs.lemmas.List.Elements.{All-drop}
 use Rattle.std.proofs.Math.Seq.{get_or-append_seam}
+use Rattle.kex_code.specs.Registers.{Registers}
 use Rattle.kex_model.specs.Acting.{ActingState}
 use Rattle.kex_machine.specs.declared.MNode.{MNode}
 use Rattle.kex_action.specs.declared.sheet.Sheet.{Sheet}
+use Rattle.kex_action.specs.Holdings.{with_bytes}
 use Rattle.kex_action.specs.Sheets.{IsSheet, IsBlank, AreMarks}
 use Rattle.kex_held.specs.Acts.{after_act, after_acts}
+use Rattle.kex_held.specs.Slices.{slice_between}
 use Rattle.kex_held.proofs.ActLists.{acted-append}
 use Rattle.kex_held.proofs.ListJoins.{slices_joined}
 use Rattle.kex_leaps.specs.declared.act.LeapAct.{LeapAct}
@@ -16,6 +19,23 @@ use Rattle.kex_leaps.specs.Leaps.{act_in, acts_in, IsActWithin, AreActsWithin, D
 
 pub blank_sheet : (s : Sheet) → IsBlank s → IsSheet s
 blank_sheet s b = record { used = omega (arith, b.0); marks = subst (λ ms. AreMarks s.used (reverse ms)) (sym b.1) tt }
+
+adds_none : (out : List ℕ) (bs : List (List ℕ)) (regs : Registers) → let s : ActingState = record { out = out; buffers = bs; registers = regs } in s ≡ with_bytes [] s
+adds_none out [] regs = ap (λ (l : List ℕ). record { out = l; buffers = []; registers = regs }) (sym (append-nil out))
+adds_none out (b ∷ bs) regs = ap (λ (l : List ℕ). record { out = out; buffers = l ∷ bs; registers = regs }) (sym (append-nil b))
+
+-- no part of a text is written yet
+pub wrote_none : (s : ActingState) → s ≡ with_bytes [] s
+wrote_none s = adds_none s.out s.buffers s.registers
+
+-- one part more
+pub wrote_more : (text : List ℕ) (at n : ℕ) (s z z' : ActingState) → z ≡ with_bytes (take at text) s → z' ≡ with_bytes (slice_between text at (at + n)) z → z' ≡ with_bytes (take (at + n) text) s
+wrote_more text at n s z z' was is =
+    let front : (k : ℕ) → take k text ≡ slice_between text 0 k = λ k. ap (λ m. take m text) (omega arith) in
+    is
+    ∙ ap (with_bytes (slice_between text at (at + n))) (was ∙ ap (λ l. with_bytes l s) (front at))
+    ∙ slices_joined [] text 0 at (at + n) (omega arith) (omega arith) s
+    ∙ ap (λ l. with_bytes l s) (sym (front (at + n)))
 
 take_front : {A : Type 0} (at m : ℕ) (xs : List A) → at ≤ m → take at (take m xs) ≡ take at xs
 take_front zero m xs le = refl

@@ -107,7 +107,7 @@ impl<'p> Leaps<'p> {
         requires usable { IsTrue actor.old.usable }
         requires node { node < length actor.old.machine.nodes }
         requires sheet { IsSheet sheet.old }
-        requires room { length piece.now ≤ length sheet.old.bytes.items }
+        requires some { 0 < length sheet.old.bytes.items }
         requires within { AreActsWithin (length piece.now) self.now.acts }
         ensures did { OnOk result (state_with sheet.new out.new.items actor.new.holding
             ≡ after_acts actor.old.machine.nodes (acts_in piece.now self.now.acts)

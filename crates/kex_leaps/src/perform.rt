@@ -4,6 +4,7 @@ ghost use Rattle.std.specs.Prelude.{◌≡◌, ◌<◌, ◌≤◌, ◌+◌, ◌-
 ghost use Rattle.kex_machine.specs.Nodes.{node_moves};
 ghost use Rattle.kex_action.specs.Actions.{after_move};
 ghost use Rattle.kex_action.specs.Deeds.{after_deed};
+ghost use Rattle.kex_action.specs.Holdings.{with_bytes};
 ghost use Rattle.kex_action.specs.Sheets.{IsSheet, IsAsLong, Writes, state_with};
 ghost use Rattle.kex_held.specs.Acts.{after_act, after_acts};
 ghost use Rattle.kex_held.specs.Slices.{slice_between};
@@ -81,6 +82,38 @@ fn make_place(
     Ok(())
 }
 
+// Writes a text for which there is no room, in parts that are no longer than a sheet. What is on
+// the sheet is handed on before each of them. That is seldom, so it is kept out of the caller.
+#[inline(never)]
+fn put_in_parts(
+    node: u32,
+    text: &[u8],
+    actor: &mut Actor,
+    sheet: &mut Sheet,
+    out: &mut Vec<u8>,
+) -> Result<(), Memory>
+    requires usable { IsTrue actor.old.usable }
+    requires node { node < length actor.old.machine.nodes }
+    requires sheet { IsSheet sheet.old }
+    requires some { 0 < length sheet.old.bytes.items }
+    ensures did { OnOk result (state_with sheet.new out.new.items actor.new.holding
+        ≡ with_bytes text.now (state_with sheet.old out.old.items actor.old.holding)) }
+    ensures sheet { OnOk result (IsSheet sheet.new × IsAsLong sheet.old sheet.new) }
+    ensures same { (actor.new.machine ≡ actor.old.machine)
+        × (actor.new.refused ≡ actor.old.refused) }
+    ensures usable { OnOk result (IsTrue actor.new.usable) }
+{
+    let most = sheet.bytes.len();
+    let mut at = 0;
+    'parts: while at < text.len() {
+        let count = most.min(text.len() - at);
+        make_place(node, count, actor, sheet, out)?;
+        put_many(sheet, &text[at..at + count]);
+        at += count;
+    }
+    Ok(())
+}
+
 // Does a deed after what is on a sheet.
 fn act_behind(
     node: u32,
@@ -145,7 +178,7 @@ fn perform_one(
     requires usable { IsTrue actor.old.usable }
     requires node { node < length actor.old.machine.nodes }
     requires sheet { IsSheet sheet.old }
-    requires room { length piece.now ≤ length sheet.old.bytes.items }
+    requires some { 0 < length sheet.old.bytes.items }
     requires within { IsActWithin (length piece.now) one }
     ensures did { OnOk result (state_with sheet.new out.new.items actor.new.holding
         ≡ after_act actor.old.machine.nodes (act_in piece.now one)
@@ -157,7 +190,9 @@ fn perform_one(
 {
     match one {
         LeapAct::Text { from, to } => {
-            make_place(node, to - from, actor, sheet, out)?;
+            if to - from > sheet.bytes.len() - sheet.used {
+                return put_in_parts(node, &piece[from..to], actor, sheet, out);
+            }
             put_on(sheet, piece, from, to);
             Ok(())
         }
@@ -212,7 +247,7 @@ pub fn perform(
     requires usable { IsTrue actor.old.usable }
     requires node { node < length actor.old.machine.nodes }
     requires sheet { IsSheet sheet.old }
-    requires room { length piece.now ≤ length sheet.old.bytes.items }
+    requires some { 0 < length sheet.old.bytes.items }
     requires within { AreActsWithin (length piece.now) acts.now }
     ensures did { OnOk result (state_with sheet.new out.new.items actor.new.holding
         ≡ after_acts actor.old.machine.nodes (acts_in piece.now acts.now)

@@ -9,8 +9,8 @@ use Rattle.kex_leaps.proofs.perform.perform.Goals as goal
 pub perform_one-requires-clause-node : goal.perform_one-requires-clause-node
 perform_one-requires-clause-node c = subst (λ m. c.args.node < length m.nodes) (sym c.acts.invariant.machine) c.requires.node
 
-pub perform_one-requires-clause-room : goal.perform_one-requires-clause-room
-perform_one-requires-clause-room c = omega (arith, c.requires.room, c.acts.invariant.room)
+pub perform_one-requires-clause-some : goal.perform_one-requires-clause-some
+perform_one-requires-clause-some c = omega (arith, c.requires.some, c.acts.invariant.room)
 
 pub perform_one-requires-clause-within : goal.perform_one-requires-clause-within
 perform_one-requires-clause-within c =
