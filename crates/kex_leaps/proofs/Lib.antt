@@ -1,3 +1,4 @@
 mod RowScans
+mod TextEnds
 mod LeapEffects
 mod KeptMarks

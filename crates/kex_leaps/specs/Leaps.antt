@@ -4,7 +4,7 @@ use Rattle.std.specs.Prelude.{get_or, slice_get}
 use Rattle.kex_code.specs.declared.symbol.Symbol.{Symbol}
 use Rattle.kex_machine.specs.declared.MNode.{MNode}
 use Rattle.kex_sst.specs.Tables.{Transducer}
-use Rattle.kex_sst.specs.Passes.{passes_if}
+use Rattle.kex_sst.specs.Passes.{Pass, passes_if, whole_code}
 use Rattle.kex_held.specs.declared.item.HeldItem.{HeldItem}
 use Rattle.kex_held.specs.declared.item.HeldItem.TheVariants as items
 use Rattle.kex_held.specs.Acts.{Act, bytes, effect, MakeSame}
@@ -59,6 +59,16 @@ pub record IsLeap (t : Transducer) (nodes : List MNode) (q n : ℕ) (bs : List �
   pub passed : (c : List Symbol)
       → passes_if t (Some (pass_with (without_registers q n) c [])) bs
       ≡ Some (pass_with (without_registers r m) (c ++ said) [])
+  pub does : DoesActs nodes n said m acts
+
+-- along the bytes the table goes from q, without registers, to a state in which the text may end;
+-- the code that it has passed on then in all does the acts from n to m
+pub record IsLastLeap (t : Transducer) (nodes : List MNode) (q n : ℕ) (bs : List ℕ)
+    (acts : List Act) (m : ℕ) : Type 0 where
+  pub said : List Symbol
+  pub ended : (c : List Symbol) → (p : Pass)
+      × (passes_if t (Some (pass_with (without_registers q n) c [])) bs ≡ Some p)
+      × (whole_code t p ≡ Some (c ++ said))
   pub does : DoesActs nodes n said m acts
 
 -- along the first bytes of a piece the table has gone from q, without registers, to a row; what is

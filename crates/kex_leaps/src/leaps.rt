@@ -3,9 +3,10 @@
 ghost use Rattle.std.specs.Prelude.{◌≡◌, ◌<◌, ◌≤◌, IfOk, IfSome, OnOk, IsTrue, length, take};
 ghost use Rattle.kex_action.specs.Sheets.{IsSheet, IsAsLong, state_with};
 ghost use Rattle.kex_held.specs.Acts.{after_acts};
-ghost use Rattle.kex_leaps.specs.Leaps.{acts_in, AreActsWithin, IsLeap};
+ghost use Rattle.kex_leaps.specs.Leaps.{acts_in, AreActsWithin, IsLeap, IsLastLeap};
 
 use crate::credit::Credit;
+use crate::last::scan_to_end;
 use crate::mark::Trace;
 use crate::perform::perform;
 pub use crate::scan::Leap;
@@ -92,6 +93,32 @@ impl<'p> Leaps<'p> {
         )?;
         self.credit.end_scan(found.is_some());
         Ok(found)
+    }
+
+    /// Goes along a text to its end from a state without registers, where the actor is at a node.
+    /// Tells to which node what is said at the end leads. `None` where the text can't end there,
+    /// and where something can't be learnt.
+    pub fn scan_to_end(&mut self, state: u32, node: u32, text: &[u8]) -> Result<Option<u32>, Memory>
+        requires state { state < length self.old.table.states }
+        requires node { node < length self.old.machine.nodes }
+        ensures ends { IfOk result (λ o. IfSome o (λ m.
+            IsLastLeap self.old.table self.old.machine.nodes state node text.now
+            (acts_in text.now self.new.acts) m)) }
+        ensures acts { IfOk result (λ o.
+            IfSome o (λ m. AreActsWithin (length text.now) self.new.acts)) }
+        ensures to { IfOk result (λ o. IfSome o (λ m. m < length self.old.machine.nodes)) }
+        ensures table { self.new.table ≡ self.old.table }
+        ensures machine { self.new.machine ≡ self.old.machine }
+    {
+        let from = LeapStart { state, node };
+        scan_to_end(
+            self.table,
+            &mut self.ledger,
+            &mut self.trace,
+            &mut self.credit,
+            from,
+            text,
+        )
     }
 
     /// Does what is to be done for the leaps of a piece along which it has gone last, on a sheet.

@@ -6,6 +6,7 @@
 pub mod act;
 mod copy;
 mod credit;
+mod last;
 pub mod leaps;
 mod mark;
 mod perform;

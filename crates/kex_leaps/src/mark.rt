@@ -56,7 +56,7 @@ fn place(marks: &[usize], at: usize, item: HeldItem) -> LeapAct
 
 // Puts items after acts.
 #[inline(always)]
-fn put_acts(
+pub(crate) fn put_acts(
     marks: &[usize],
     at: usize,
     items: &[HeldItem],

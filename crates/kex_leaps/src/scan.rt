@@ -192,9 +192,9 @@ pub fn scan_on(
     Ok(ScanStop { at, row, end })
 }
 
-// Learns the edge of a row at a byte of a piece. That is seldom, so it is kept out of the scan.
+/// Learns the edge of a row at a byte of a piece. That is seldom, so it is kept out of the scan.
 #[inline(never)]
-fn learn_at(ledger: &mut RowLedger, table: &Table, row: u32, byte: u8) -> Result<(), Memory>
+pub fn learn_at(ledger: &mut RowLedger, table: &Table, row: u32, byte: u8) -> Result<(), Memory>
     requires table { table.now ≡ ledger.old.table }
     requires row { row < length ledger.old.rows }
     ensures { KeepsRows ledger.old ledger.new }
