@@ -1,5 +1,5 @@
 -- A table that goes on by quiet updates.
-use Rattle.std.proofs.Common.{◌≡◌, ◌≢◌, ℕ, zero, suc, ◌+◌, ◌-◌, ◌*◌, ◌/◌, ◌%◌, ◌<◌, ◌≤◌, true, Bool, List, [], ◌∷◌, ◌++◌, Some, length, get_or, take, drop, refl, sym, ap, subst, ◌∙◌, append-nil, append_assoc, arith}
+use Rattle.std.proofs.Common.{◌≡◌, ◌≢◌, ℕ, zero, suc, ◌+◌, ◌-◌, ◌*◌, ◌/◌, ◌%◌, ◌<◌, ◌≤◌, true, Bool, List, [], ◌∷◌, ◌++◌, Some, length, get_or, take, drop, refl, sym, ap, ap₂, subst, ◌∙◌, append-nil, append_assoc, arith}
 use Rattle.std.specs.Prelude.{All, slice_get}
 use Rattle.std.proofs.Math.Nat.{mul-div_cancel}
 use Rattle.std.proofs.Math.Seq.{take-add}
@@ -10,7 +10,7 @@ use Rattle.kex_byteset.specs.Classes.{class_at, class_count}
 use Rattle.kex_code.specs.declared.symbol.Symbol.{Symbol}
 use Rattle.kex_sst.specs.Parts.{parts_code}
 use Rattle.kex_sst.specs.Tables.{Transducer, IsTable}
-use Rattle.kex_sst.specs.Passes.{passes_if}
+use Rattle.kex_sst.specs.Passes.{next_pass, passes_if}
 use Rattle.kex_sst.proofs.Passes.{passes_more}
 use Rattle.kex_script.specs.declared.piece.ByteWord.{ByteWord}
 use Rattle.kex_script.specs.declared.script.Entry.{Entry}
@@ -20,9 +20,9 @@ use Rattle.kex_runner.specs.declared.quiet.Guide.{Guide}
 use Rattle.kex_runner.specs.declared.history.NotedUpdate.{NotedUpdate}
 use Rattle.kex_runner.specs.Noting.{next_registers, noted_by, registers_after, settled_of, update_of, updates_of}
 use Rattle.kex_runner.specs.Following.{Follows, IsTablePlace, pass_at}
-use Rattle.kex_runner.specs.Quiet.{IsGuide, IsQuiet, StaysAt, quiet_at, staying}
+use Rattle.kex_runner.specs.Quiet.{GoesQuietly, IsGuide, IsQuiet, StaysAt, quiet_at, staying}
 use Rattle.kex_runner.proofs.Notes.{registers_push}
-use Rattle.kex_runner.proofs.ByteSteps.{Goes, goes_next, next_by_class, place_next}
+use Rattle.kex_runner.proofs.ByteSteps.{Goes, goes_next, next_by_class, place_in_range, place_next}
 use Rattle.kex_runner.proofs.ScriptSteps.{IsStep, told_by, step_of}
 
 some_same : {A : Type 0} {x y : A} → Some x ≡ Some y → x ≡ y
@@ -90,6 +90,30 @@ module _ (t : Transducer) (g : Guide) (table : IsTable t) (script : IsScriptOf g
         let regs' = noted_by g.script base (notes ++ record { update = q.update; byte = b; stays = stays } ∷ []) in
         subst (λ z. Goes t state registers piece (i + 1) z regs' [] []) (sym (target e q h))
         (goes_next t state registers piece i (row / g.width) regs [] [] b less is (told_by g.script e) regs' [] (next_by_class t (row / g.width) b class table byte of ∙ step.at) noted (ap (λ z. parts_code regs b z) (sym (step.update.silent.0 h.silent))) f)
+
+  -- a quiet update leads to a state of the table
+  pub target_few : (row class : ℕ) (q : Quiet) → IsQuiet (entry_at g.script (row / g.width) class) g.width (length g.quiets.items) q → class < class_count t.classes → q.row / g.width < 4294967296
+  target_few row class q h lt =
+      let e = entry_at g.script (row / g.width) class in
+      let step = step_of g.script t (row / g.width) class e script lt refl h.goes in
+      let less = place_in_range (place_next t (row / g.width) class [] (told_by g.script e) (next_registers (change_at g.script e.update) 0 []) 0 table step.at refl) in
+      omega (arith, less, table.few, target e q h)
+
+  -- along one byte more, whatever registers hold
+  pub quietly_more : (row class b state : ℕ) (q : Quiet) (piece : List ℕ) (i : ℕ) → IsQuiet (entry_at g.script (row / g.width) class) g.width (length g.quiets.items) q → class < class_count t.classes → i < length piece → b ≡ get_or piece i 0 → b < 256 → class ≡ class_at t.classes b → GoesQuietly t state (row / g.width) (take i piece) → GoesQuietly t state (q.row / g.width) (take (i + 1) piece)
+  quietly_more row class b state q piece i h lt less is byte of f = λ c held.
+      let e = entry_at g.script (row / g.width) class in
+      let step = step_of g.script t (row / g.width) class e script lt refl h.goes in
+      let before = f c held in
+      let regs = before.0 in
+      let r = told_by g.script e in (
+        next_registers r.update b regs,
+        ap (λ z. passes_if t (Some (pass_at state c held)) z) (take_more piece i 0 less ∙ ap (λ z. take i piece ++ z ∷ []) (sym is))
+            ∙ passes_more t (Some (pass_at state c held)) (take i piece) (b ∷ [])
+            ∙ ap (λ z. passes_if t z (b ∷ [])) before.1
+            ∙ ap (λ z. passes_if t (next_pass z b (pass_at (row / g.width) c regs)) []) (next_by_class t (row / g.width) b class table byte of ∙ step.at)
+            ∙ ap₂ (λ x y. Some (pass_at x y (next_registers r.update b regs))) (sym (target e q h)) (ap (λ z. c ++ parts_code regs b z) (step.update.silent.0 h.silent) ∙ append-nil c),
+      )
 
   -- a state stays along bytes at which its row is not left
   module _ (base : List (List ByteWord)) (notes : List NotedUpdate) (row : ℕ) (whole : row ≡ row / g.width * g.width) (some : row ≢ 4294967295) (inside : row + g.width ≤ length g.quiets.items) where

@@ -3,7 +3,9 @@
 use Rattle.std.specs.Prelude.{◌≡◌, ℕ, ◌+◌, ◌*◌, ◌/◌, ◌%◌, ◌^◌, ◌<◌, ◌≤◌, true, List, Some, get_or}
 use Rattle.std.specs.Prelude.{length, map, slice_get}
 use Rattle.kex_byteset.specs.Classes.{class_at, class_count}
+use Rattle.kex_code.specs.declared.symbol.Symbol.{Symbol}
 use Rattle.kex_sst.specs.Tables.{Transducer}
+use Rattle.kex_sst.specs.Passes.{passes_if}
 use Rattle.kex_script.specs.declared.script.Entry.{Entry}
 use Rattle.kex_script.specs.Scripts.{Sheet, IsScriptOf, entry_at}
 use Rattle.kex_runner.specs.declared.quiet.Quiet.{Quiet}
@@ -52,3 +54,9 @@ StaysAt qs classes row b = (class_at classes b < class_count classes)
 abbrev pub staying : List Quiet → List ℕ → ℕ → List ℕ → List NotedUpdate
 staying qs classes row bytes =
     map (λ b. record { update = (quiet_at qs classes row b).update; byte = b; stays = true }) bytes
+
+-- from q on the table passes nothing on along the bytes, whatever its registers hold, and comes to r
+abbrev pub GoesQuietly : Transducer → ℕ → ℕ → List ℕ → Type 0
+GoesQuietly t q r bs = (c : List Symbol) (held : List (List Symbol)) → (more : List (List Symbol))
+    × (passes_if t (Some (record { state = q; code = c; registers = held })) bs
+    ≡ Some (record { state = r; code = c; registers = more }))

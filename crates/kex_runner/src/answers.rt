@@ -25,6 +25,13 @@ pub enum Applied {
     Gone(u64),
 }
 
+/// How many bytes at the front of a piece are quiet, and the state to which they lead.
+#[derive(Clone, Copy, Debug, PartialEq, Eq)]
+pub struct Glance {
+    pub count: usize,
+    pub state: u32,
+}
+
 pub(crate) fn answer_of(dead: bool) -> Fed
     ensures { result ≡ runner_answer dead }
 {

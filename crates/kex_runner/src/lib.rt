@@ -32,4 +32,4 @@ pub mod shared_guide;
 mod spelling;
 mod ways;
 
-pub use answers::{Applied, Ended, Fed};
+pub use answers::{Applied, Ended, Fed, Glance};

@@ -1,8 +1,9 @@
 // Quiet updates: those that pass nothing on and lead to a state with registers.
 
-ghost use Rattle.std.specs.Prelude.{◌≡◌, ◌<◌, ◌≤◌, ◌^◌, ◌/◌, IfOk, length};
-ghost use Rattle.kex_runner.specs.Quiet.{AreQuiet, IsGuide, IsQuietIf};
+ghost use Rattle.std.specs.Prelude.{◌≡◌, ◌<◌, ◌≤◌, ◌^◌, ◌/◌, IfOk, length, take};
+ghost use Rattle.kex_runner.specs.Quiet.{AreQuiet, GoesQuietly, IsGuide, IsQuietIf};
 
+use crate::answers::Glance;
 use kex_code::memory::Memory;
 use kex_script::ids::UpdateId;
 use kex_script::script::{Entry, Script};
@@ -124,5 +125,36 @@ impl Guide {
         ensures { result ≡ row / self.now.width }
     {
         row >> self.shift
+    }
+
+    /// How far a piece is quiet from a state on: each update passes nothing on, and leads to a
+    /// state with registers. None is noted. Not inlined: within a long caller what the loop reads
+    /// for each byte would be kept in memory.
+    #[inline(never)]
+    pub fn glance(&self, table: &Table, state: u32, piece: &[u8]) -> Glance
+        requires guide { IsGuide table.now self.now }
+        ensures count { result.count ≤ length piece.now }
+        ensures quiet { GoesQuietly table.now state result.state (take result.count piece.now) }
+    {
+        let quiets = self.quiets.as_slice();
+        let partition = table.partition();
+        let mut row = state as usize * self.width;
+        if row + self.width > quiets.len() {
+            return Glance { count: 0, state };
+        }
+        let mut count = 0;
+        while count < piece.len() {
+            let byte = piece[count];
+            let quiet = quiets[row + usize::from(partition.class_of(byte))];
+            if quiet.row == NOWHERE {
+                break;
+            }
+            row = quiet.row as usize;
+            count += 1;
+        }
+        Glance {
+            count,
+            state: self.state_of(row) as u32,
+        }
     }
 }

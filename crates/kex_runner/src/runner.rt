@@ -11,10 +11,10 @@ ghost use Rattle.kex_runner.specs.Running.{RunnerEnds, RunnerFeeds, IsRunOf, ite
 ghost use Rattle.kex_script.specs.Pieces.{code_over};
 ghost use Rattle.kex_runner.specs.Noting.{contents};
 ghost use Rattle.kex_runner.specs.Following.{IsTablePlace, IsRunner, pass_at};
-ghost use Rattle.kex_runner.specs.Quiet.{IsGuide};
+ghost use Rattle.kex_runner.specs.Quiet.{GoesQuietly, IsGuide};
 ghost use Rattle.kex_runner.specs.Ways.{AreKnown};
 
-use crate::answers::{Ended, Fed, answer_of};
+use crate::answers::{Ended, Fed, Glance, answer_of};
 use crate::place::{TablePlace, Taken};
 use crate::shared_guide::SharedGuide;
 use crate::spelling::spell;
@@ -315,6 +315,16 @@ impl<'t> Runner<'t> {
         ensures { IsTrue result ↔ (0 < length self.now.registers) }
     {
         self.place.registers.len() > 0
+    }
+
+    /// How far a piece is quiet from a state on: the table passes nothing on, and holds something
+    /// after each byte. The runner stays as it is.
+    pub fn glance(&self, state: u32, piece: &[u8]) -> Glance
+        ensures count { result.count ≤ length piece.now }
+        ensures quiet { GoesQuietly self.now.table state result.state
+            (take result.count piece.now) }
+    {
+        self.guide.get().glance(self.table, state, piece)
     }
 
     /// How many good bytes were read: those before the first at which the table stops.
