@@ -55,7 +55,8 @@ abbrev pub staying : List Quiet → List ℕ → ℕ → List ℕ → List Noted
 staying qs classes row bytes =
     map (λ b. record { update = (quiet_at qs classes row b).update; byte = b; stays = true }) bytes
 
--- from q on the table passes nothing on along the bytes, whatever its registers hold, and comes to r
+-- from q on the table passes nothing on along the bytes, whatever its registers hold, and comes
+-- to r
 abbrev pub GoesQuietly : Transducer → ℕ → ℕ → List ℕ → Type 0
 GoesQuietly t q r bs = (c : List Symbol) (held : List (List Symbol)) → (more : List (List Symbol))
     × (passes_if t (Some (record { state = q; code = c; registers = held })) bs
