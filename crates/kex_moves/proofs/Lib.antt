@@ -10,5 +10,6 @@ mod Trails
 mod AddedRows
 pub mod SheetRuns
 mod LeapRuns
+mod LastLeaps
 mod BareStates
 pub mod StoppedCodes

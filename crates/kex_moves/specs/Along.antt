@@ -7,7 +7,7 @@ use Rattle.kex_action.specs.Sheets.{state_with}
 use Rattle.kex_action.specs.Actors.{Position, HasPerformed, BeginsRun, WentOn}
 use Rattle.kex_sst.specs.Tables.{Transducer}
 use Rattle.kex_sst.specs.Laws.{IsPassOf}
-use Rattle.kex_sst.specs.Passes.{Pass, passes, passes_if}
+use Rattle.kex_sst.specs.Passes.{Pass, passes, passes_if, whole_code}
 use Rattle.kex_held.specs.Walks.{TakesCode}
 use Rattle.kex_moves.specs.Known.{Known, HasRowFor}
 
@@ -84,3 +84,14 @@ pub record RunsOn (t : Transducer) (old new : Position) (q r : ℕ)
       → passes t (w ++ bs) ≡ Some (bare r (c ++ said))
   pub went : (given c : List Symbol) (written : List ℕ) → HasPerformed old given c written
       → BeginsRun old.machine (c ++ said) → WentOn old new said said before after
+
+-- where the table, after a text, is at q without registers, and the text ends after the bytes, a
+-- code is said of these and of the end; and if all that was said begins a run's code, the actor
+-- that has performed what came before performs this too
+pub record EndsOn (t : Transducer) (old new : Position) (q : ℕ) (bs before after : List ℕ) : Type 0
+  where
+    pub said : List Symbol
+    pub ended : (w : List ℕ) (c : List Symbol) → passes t w ≡ Some (bare q c)
+        → (p : Pass) × (passes t (w ++ bs) ≡ Some p) × (whole_code t p ≡ Some (c ++ said))
+    pub went : (given c : List Symbol) (written : List ℕ) → HasPerformed old given c written
+        → BeginsRun old.machine (c ++ said) → WentOn old new said said before after

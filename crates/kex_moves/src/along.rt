@@ -45,12 +45,14 @@ pub struct Primer<'p> {
     pub machine: &'p Trimmed,
 }
 
-/// What is learnt of a table and a machine, and the sheet on which a run writes.
+/// What is learnt of a table and a machine, the sheet on which a run writes, and how many bytes are
+/// looked at for a leap.
 #[derive(Drop)]
 pub struct Logbook<'p> {
     pub edges: Edges,
     pub leaps: Leaps<'p>,
     pub sheet: Sheet,
+    pub reach: usize,
 }
 
 /// How many bytes a run took, and the state to which they lead.

@@ -11,16 +11,16 @@ use crate::along::{Logbook, RowStride};
 use kex_action::actor::Actor;
 use kex_code::memory::Memory;
 
-/// How many bytes of a piece are looked at for a leap. What they write has room on a sheet.
-const LONGEST: usize = 65_536;
+/// How many bytes of a piece are looked at for a leap, where nothing is known of them.
+pub const LONGEST: usize = 65_536;
 
 // The part of a piece in which a leap has to end.
-fn front_of(piece: &[u8]) -> &[u8]
-    ensures front { result.now ≡ take LONGEST piece.now }
-    ensures few { length result.now ≤ LONGEST }
+fn front_of(piece: &[u8], reach: usize) -> &[u8]
+    ensures front { result.now ≡ take reach piece.now }
+    ensures few { length result.now ≤ reach }
 {
-    if piece.len() > LONGEST {
-        &piece[..LONGEST]
+    if piece.len() > reach {
+        &piece[..reach]
     } else {
         piece
     }
@@ -57,7 +57,7 @@ pub fn leap_at(
         row,
         stops: true,
     };
-    let front = front_of(piece);
+    let front = front_of(piece, book.reach);
     let pair = book.edges.pair_at(row);
     let Some(leap) = book.leaps.scan(pair.state, pair.node, front)? else {
         return Ok(none);

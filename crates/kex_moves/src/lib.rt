@@ -19,6 +19,7 @@ mod along;
 mod edge;
 mod edges;
 mod follow;
+mod last;
 mod leap;
 mod learn;
 pub mod moves;

@@ -1,11 +1,13 @@
 // The hot loop of a stage over a table.
 
-ghost use Rattle.std.specs.Prelude.{◌≡◌, ◌≤◌, ◌^◌, IsTrue, IfOk, OnOk, length, take};
-ghost use Rattle.kex_moves.specs.Along.{RunsOn, IsBareState};
+ghost use Rattle.std.specs.Prelude.{◌≡◌, ◌≤◌, ◌^◌, false, IsTrue, IfOk, OnOk, length, take};
+ghost use Rattle.kex_moves.specs.Along.{EndsOn, RunsOn, IsBareState};
 
 pub use crate::along::Ran;
 use crate::along::{Logbook, Primer, ROOM, run_at};
 use crate::edges::{By, Edges};
+use crate::last::end_at;
+use crate::leap::LONGEST;
 use kex_action::actor::Actor;
 use kex_action::sheet::Sheet;
 use kex_code::memory::Memory;
@@ -89,6 +91,7 @@ impl<'p> Moves<'p> {
                 edges,
                 leaps,
                 sheet,
+                reach: LONGEST,
             },
             usable: true,
         })
@@ -114,12 +117,68 @@ impl<'p> Moves<'p> {
         ensures machine { actor.new.machine ≡ actor.old.machine }
         ensures usable { OnOk result (IsTrue actor.new.usable) }
     {
+        self.run_past(0, state, actor, piece, out)
+    }
+
+    /// The same, where the first bytes of the piece are known to be held back. A leap is looked for
+    /// that goes past these, however many they are.
+    pub fn run_past(
+        &mut self,
+        held: usize,
+        state: u32,
+        actor: &mut Actor<'p>,
+        piece: &[u8],
+        out: &mut Vec<u8>,
+    ) -> Result<Ran, Memory>
+        requires usable { IsTrue actor.old.usable }
+        requires machine { actor.old.machine ≡ self.old.machine }
+        ensures within { IfOk result (λ ran. ran.count ≤ length piece.now) }
+        ensures runs { IfOk result (λ ran. RunsOn self.old.table actor.old actor.new state ran.state
+            (take ran.count piece.now) out.old.items out.new.items) }
+        ensures bare { IfOk result (λ ran. IsBareState self.old.table state
+            → IsBareState self.old.table ran.state) }
+        ensures same { self.new ≡ self.old }
+        ensures machine { actor.new.machine ≡ actor.old.machine }
+        ensures usable { OnOk result (IsTrue actor.new.usable) }
+    {
         if !self.usable {
             return Ok(Ran { count: 0, state });
         }
         self.usable = false;
+        self.book.reach = held.saturating_add(LONGEST);
         let ran = run_at(&self.primer, &mut self.book, state, actor, piece, out)?;
         self.usable = true;
         Ok(ran)
+    }
+
+    /// Performs what is said of a text from a state without registers on, and of its end. Nothing
+    /// is done, and the answer is `false`, where the text can't end there, and where that can't be
+    /// learnt.
+    pub fn end(
+        &mut self,
+        state: u32,
+        actor: &mut Actor<'p>,
+        text: &[u8],
+        out: &mut Vec<u8>,
+    ) -> Result<bool, Memory>
+        requires usable { IsTrue actor.old.usable }
+        requires machine { actor.old.machine ≡ self.old.machine }
+        ensures ends { IfOk result (λ done. IsTrue done → EndsOn self.old.table actor.old actor.new
+            state text.now out.old.items out.new.items) }
+        ensures none { IfOk result (λ done. done ≡ false → (actor.new ≡ actor.old)
+            × (out.new.items ≡ out.old.items)) }
+        ensures same { self.new ≡ self.old }
+        ensures machine { actor.new.machine ≡ actor.old.machine }
+        ensures usable { OnOk result (IsTrue actor.new.usable) }
+    {
+        let states = self.primer.table.states().len();
+        let nodes = self.primer.machine.nodes().len();
+        if !self.usable || state as usize >= states || actor.node() as usize >= nodes {
+            return Ok(false);
+        }
+        self.usable = false;
+        let done = end_at(&mut self.book, state, actor, text, out)?;
+        self.usable = true;
+        Ok(done)
     }
 }

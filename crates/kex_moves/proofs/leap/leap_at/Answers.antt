@@ -53,7 +53,7 @@ returns-clause-known c =
 pub returns-clause-within : goal.returns-clause-within
 returns-clause-within c =
     let within = subst (λ o. IfSome o (λ s. s.count ≤ length c.front_of-front.result.now)) c.in-Some.is (c.in_ok-leap.ensures {u = tt}).within in
-    omega (arith, within, ap length c.front_of-front.ensures.front, length-take 65536 c.args.piece.now)
+    omega (arith, within, ap length c.front_of-front.ensures.front, length-take c.args.book.now.reach c.args.piece.now)
 
 pub returns-clause-reached : goal.returns-clause-reached
 returns-clause-reached c =
@@ -74,8 +74,8 @@ returns-clause-reached c =
     let y = c.perform.new.out.items in
     let found = c.in_ok-leap.ensures {u = tt} in
     let within = subst (λ o. IfSome o (λ s. s.count ≤ length front)) c.in-Some.is found.within in
-    let few : st.count ≤ 65536 = omega (arith, within, c.front_of-front.ensures.few) in
-    let same : take st.count front ≡ take st.count piece = ap (take st.count) c.front_of-front.ensures.front ∙ take-take st.count 65536 piece few in
+    let few : st.count ≤ c.args.book.now.reach = omega (arith, within, c.front_of-front.ensures.few) in
+    let same : take st.count front ≡ take st.count piece = ap (take st.count) c.front_of-front.ensures.front ∙ take-take st.count c.args.book.now.reach piece few in
     let one = subst (λ o. IfSome o (λ s. IsLeap t c.args.book.now.leaps.machine.nodes c.pair_at-pair.result.state c.pair_at-pair.result.node (take s.count front) acts s.state s.node)) c.in-Some.is found.leap in
     let two = subst (λ (g : Graph). IsLeap t g.nodes c.pair_at-pair.result.state c.pair_at-pair.result.node (take st.count front) acts st.state st.node) (sym c.requires.machine) one in
     let three = subst (λ l. IsLeap t a.machine.nodes c.pair_at-pair.result.state c.pair_at-pair.result.node l acts st.state st.node) same two in

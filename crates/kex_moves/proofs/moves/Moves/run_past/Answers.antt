@@ -1,7 +1,7 @@
 use Rattle.std.proofs.Common.{take, subst}
 use Rattle.kex_moves.specs.Along.{RunsOn}
 use Rattle.kex_moves.proofs.EdgeRuns.{runs_on}
-use Rattle.kex_moves.proofs.moves.Moves.run.Goals as goal
+use Rattle.kex_moves.proofs.moves.Moves.run_past.Goals as goal
 
 pub returns-clause-runs : goal.returns-clause-runs
 returns-clause-runs c =
