@@ -1,6 +1,7 @@
 -- An oracle and an actor that go on in several steps.
-use Rattle.std.proofs.Common.{◌≡◌, ℕ, zero, suc, ◌<◌, ◌≤◌, ◌+◌, ◌-◌, Bool, true, false, List, [], ◌∷◌, ◌++◌, Some, length, take, drop, refl, sym, ap, ap₂, subst, ◌∙◌, append_assoc, append-nil, arith, length-append, take-append-drop}
-use Rattle.std.proofs.lemmas.List.{length-take-le, take_rest}
+use Rattle.std.proofs.Common.{◌≡◌, ℕ, zero, suc, ◌<◌, ◌≤◌, ◌+◌, ◌-◌, Bool, true, false, List, [], ◌∷◌, ◌++◌, Option, Some, None, length, take, drop, refl, sym, ap, ap₂, subst, ◌∙◌, append_assoc, append-nil, arith, length-append, take-append-drop}
+use Rattle.std.proofs.Math.Seq.{drop-drop}
+use Rattle.std.proofs.lemmas.List.{length-take-le, take_all, take_rest}
 use Rattle.kex_code.specs.declared.symbol.Symbol.{Symbol}
 use Rattle.kex_machine.specs.Answers.{IsViableFor}
 use Rattle.kex_action.specs.Actors.{Position, HasPerformed, BeginsRun, TookAll}
@@ -13,10 +14,12 @@ use Rattle.kex_stage.specs.declared.follower.Follower.{Follower}
 use Rattle.kex_stage.specs.declared.oracle.Oracle.{Oracle}
 use Rattle.kex_stage.specs.declared.oracle.Oracle.TheVariants.{Table}
 use Rattle.kex_stage.specs.Plans.{IsTableAs, SaysAs}
+use Rattle.kex_stage.specs.Ahead.{given_if}
 use Rattle.kex_stage.specs.Oracles.{Agrees}
 use Rattle.kex_stage.specs.Works.{Followed, StageWorks, StageGoes}
 use Rattle.kex_stage.specs.Strides.{HasGone}
-use Rattle.kex_stage.proofs.OracleAnswers.{says, take_all}
+use Rattle.kex_stage.proofs.OracleAnswers as answers
+use Rattle.kex_stage.proofs.OracleAnswers.{says}
 use Rattle.kex_stage.proofs.ByTable.{still_live, table_agrees, table_told}
 use Rattle.kex_stage.proofs.ToldCodes.{viable_told}
 
@@ -103,9 +106,9 @@ settles o f a b c p x y z none first took mc = record {
         more = h.more ++ took.went.more;
         written = took.went.written ∙ ap (λ u. u ++ took.went.more) h.written ∙ append_assoc x h.more took.went.more;
         followed = λ e. record { code = d.code; hears = d.hears; performed = subst (λ u. HasPerformed c d.code d.code u) (append_assoc text h.more took.went.more) done; machine = mc ∙ d.machine };
-        good = subst (λ u. IsViableFor g (w ++ u)) (sym (take_all p)) h.good;
+        good = subst (λ u. IsViableFor g (w ++ u)) (sym (answers.take_all p)) h.good;
         bad = λ lt. absurd (omega (arith, lt));
-        says = subst (λ u. SaysAs tell g (w ++ u) (text ++ (h.more ++ took.went.more))) (sym (take_all p)) (subst (λ u. SaysAs tell g (w ++ p) u) (append_assoc text h.more took.went.more) said);
+        says = subst (λ u. SaysAs tell g (w ++ u) (text ++ (h.more ++ took.went.more))) (sym (answers.take_all p)) (subst (λ u. SaysAs tell g (w ++ p) u) (append_assoc text h.more took.went.more) said);
       };
 }
 
@@ -180,6 +183,10 @@ none_refused true o n a b count x y le h = absurd (omega (arith, h.0))
 none_refused false o n a b zero x y le h = h
 none_refused false o n a b (suc k) x y le h = absurd (omega arith)
 
+-- what is left of a piece after a part of what was left
+pub rest_after : (piece : List ℕ) (at count : ℕ) → drop count (take (length piece - at) (drop at piece)) ≡ drop (at + count) piece
+rest_after piece at count = ap (drop count) (take_rest piece at) ∙ drop-drop count at piece
+
 -- a piece in two, as the code cuts it
 pub cut_at : (piece : List ℕ) (at : ℕ) → take at piece ++ take (length piece - at) (drop at piece) ≡ piece
 cut_at piece at = ap (λ u. take at piece ++ u) (take_rest piece at) ∙ take-append-drop at piece
@@ -203,3 +210,26 @@ bare_place t q registers none h =
 -- and the other way
 pub place_bare : (t : Transducer) (q : ℕ) → IsBareState t q → IsTablePlace t q []
 place_bare t q p = record { row = p.row; at = p.at; count = p.count }
+
+suc_less : (m n : ℕ) → m < n → suc m < suc n
+suc_less m n h = omega (arith, h)
+
+none_less : (n : ℕ) → 0 < suc n
+none_less n = omega arith
+
+-- how many strides there are at most: none after one that puts bytes off
+abbrev pub rounds_left : Option ℕ → ℕ → ℕ
+rounds_left None n = suc n
+rounds_left (Some q) n = 0
+
+pub rounds_fewer : (old new : Option ℕ) (n m : ℕ) → old ≡ None → (new ≡ None → m < n) → rounds_left new m < rounds_left old n
+rounds_fewer None None n m e f = suc_less m n (f refl)
+rounds_fewer None (Some q) n m e f = none_less n
+rounds_fewer (Some q) new n m e f = let bad : Some q ≡ None = e in cc
+
+-- a piece of which all was gone along, or what comes before the bytes that are put off
+pub works_till : (o : Oracle) (f : Follower) (a b c : Position) (piece : List ℕ) (at : ℕ) (ahead : Option ℕ) (x y z : List ℕ) → at ≤ length piece → (ahead ≡ None → length piece ≤ at) → f.runner.pending ≡ [] → StageGoes o (Table f) a b (take at piece) x y → TookAll b c [] y z → c.machine ≡ b.machine → StageWorks o (Table f) a c (given_if ahead at piece) at x z
+works_till o f a b c piece at None x y z le all none goes took mc =
+    let same : length piece ≡ at = let more = all refl in omega (arith, more, le) in
+    subst (λ n. StageWorks o (Table f) a c piece n x z) same (settles o f a b c piece x y z none (subst (λ p. StageGoes o (Table f) a b p x y) (take_all at piece (all refl)) goes) took mc)
+works_till o f a b c piece at (Some q) x y z le all none goes took mc = subst (λ n. StageWorks o (Table f) a c (take at piece) n x z) (length-take-le at piece le) (settles o f a b c (take at piece) x y z none goes took mc)

@@ -7,5 +7,7 @@ pub mod ActorOutputs
 pub mod Followers
 pub mod PerformedSteps
 pub mod FedStages
+pub mod QuietBytes
 pub mod TableAnswers
 pub mod NoRefusals
+pub mod EndsPast

@@ -22,7 +22,7 @@ use Rattle.kex_stage.proofs.ByTable.{still_live, table_agrees}
 use Rattle.kex_stage.proofs.FedStages.{SaysStage, ClosesStage}
 
 -- a fault is a refusal or want of memory
-by_fault : (fault : StageFault) → (fault ≡ faults.Refused → ⊥) → fault ≡ faults.Memory
+pub by_fault : (fault : StageFault) → (fault ≡ faults.Refused → ⊥) → fault ≡ faults.Memory
 by_fault faults.Refused h = absurd (h refl)
 by_fault faults.Memory h = refl
 
@@ -36,7 +36,7 @@ told_begins : {k : Telling} {g : Graph} {w : List ℕ} {c : List Symbol} (a : Po
 told_begins {c = c} a same h = subst (λ m. BeginsRun m c) (sym same) (h.run, h.runs, h.begins)
 
 -- so it does at the end
-end_begins : (parsed : Bool) (k : Telling) (g : Graph) (w : List ℕ) (c : List Symbol) (a : Position) → a.machine ≡ g → ShowsEnd parsed k g w c → BeginsRun a.machine c
+pub end_begins : (parsed : Bool) (k : Telling) (g : Graph) (w : List ℕ) (c : List Symbol) (a : Position) → a.machine ≡ g → ShowsEnd parsed k g w c → BeginsRun a.machine c
 end_begins true k g w c a same h =
     let path = h.greedy.2.reached in
     subst (λ m. BeginsRun m c) (sym same) (path.0, (h.greedy.0, path.1.walk, h.greedy.1), ([], path.2 ∙ sym (append-nil c)))
@@ -95,7 +95,7 @@ abbrev pub Ends : Telling → Oracle → Position → List ℕ → List ℕ → 
 Ends k o a before after parsed = (w text : List ℕ) → StageFollows k o a w text → CameToEnd (λ u e t. ClosesStage k a.machine u e t) w text parsed before after
 
 -- a refusal comes of no text that is followed
-not_refused : (k : Telling) (o : Oracle) (a : Position) → RefusesNone o a faults.Refused → (w text : List ℕ) → StageFollows k o a w text → ⊥
+pub not_refused : (k : Telling) (o : Oracle) (a : Position) → RefusesNone o a faults.Refused → (w text : List ℕ) → StageFollows k o a w text → ⊥
 not_refused k o a none w text f = let bad : faults.Refused ≡ faults.Memory = none k a.machine w text f.followed f.good in cc
 
 pub reads_none : (k : Telling) (o new : Oracle) (a b : Position) (before after piece : List ℕ) (at : Option ℕ) → RefusesNone o a faults.Refused → Reads k o new a b before after piece at

@@ -5,6 +5,7 @@
 //! whose answer is the stage's over the nodes of its machine.
 #![tactic(auto)]
 
+pub mod advance;
 pub mod common;
 pub mod follower;
 pub mod laws;
@@ -15,3 +16,5 @@ pub mod route;
 pub mod speak;
 pub mod stage;
 mod strides;
+pub mod team;
+pub mod worker;

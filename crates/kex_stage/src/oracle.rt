@@ -1,14 +1,18 @@
 // The oracle of a stage: a frontier of its machine, or a runner of its table.
 
-ghost use Rattle.std.specs.Prelude.{◌≡◌, ◌+◌, ◌^◌, ◌<◌, ◌≤◌, [], IfErr, IfOk, OnOk, IsTrue};
-ghost use Rattle.std.specs.Prelude.{length};
+ghost use Rattle.std.specs.Prelude.{◌≡◌, ◌+◌, ◌^◌, ◌<◌, ◌≤◌, [], false, None, IfErr, IfOk, IfSome};
+ghost use Rattle.std.specs.Prelude.{ℕ, OnOk, IsTrue, drop, length};
+ghost use Rattle.kex_action.specs.Actors.{IsSettled};
 ghost use Rattle.kex_machine.specs.Answers.{IsViableFor};
 ghost use Rattle.kex_machine.specs.Nodes.{Graph};
 ghost use Rattle.kex_stage.specs.declared.plan.Telling.{Telling};
+ghost use Rattle.kex_stage.specs.Ahead.{FinishesPast, IsQuietAhead, IsStill, TellsNoneOf};
+ghost use Rattle.kex_stage.specs.Ahead.{told_front};
 ghost use Rattle.kex_stage.specs.Oracles.{Hears, IsOracleFor, IsReady, TellsEnd, learnt_of};
 ghost use Rattle.kex_stage.specs.Oracles.{read_of, usable_of};
 ghost use Rattle.kex_stage.specs.Works.{RefusesNone, StageFinishes, StageWorks};
 
+use crate::advance::{Advance, Approach};
 use crate::follower::Follower;
 use crate::paths::Paths;
 use crate::plan::Plan;
@@ -86,22 +90,28 @@ impl<'p> Oracle<'p> {
     }
 
     /// Takes a piece, and writes what is said. Tells how many bytes are good: all, or those before
-    /// one with which no parse begins. What the code held is cleared.
-    pub fn go_on(
+    /// one with which no parse begins; or those before others that are put off. The oracle isn't
+    /// given these. What the code held is cleared.
+    pub fn go_along(
         &mut self,
+        approach: Approach,
         actor: &mut Actor<'p>,
         piece: &[u8],
         code: &mut Code,
         out: &mut Vec<u8>,
-    ) -> Result<usize, StageFault>
+    ) -> Result<Advance, StageFault>
         requires ready { IsReady self.old }
         requires actor { IsTrue actor.old.usable }
         requires learnt { learnt_of self.old actor.old.machine ≡ actor.old.machine }
         requires room { read_of self.old + length piece.now < 2 ^ 64 }
-        ensures works { IfOk result (λ count. StageWorks self.old self.new actor.old actor.new
-            piece.now count out.old.items out.new.items) }
+        ensures works { IfOk result (λ s. StageWorks self.old self.new actor.old actor.new
+            (told_front s piece.now) s.count out.old.items out.new.items) }
         ensures refuses { IfErr result (RefusesNone self.old actor.old) }
-        ensures read { IfOk result (λ count. read_of self.new ≡ read_of self.old + count) }
+        ensures ahead { IfOk result (λ s. IfSome s.ahead (λ q. IsSettled actor.new
+            × IsQuietAhead self.new (drop s.count piece.now) q)) }
+        ensures waits { IfOk result (λ s. approach.puts_off ≡ false → s.ahead ≡ None) }
+        ensures count { IfOk result (λ s. s.count ≤ length piece.now) }
+        ensures read { IfOk result (λ s. read_of self.new ≡ read_of self.old + s.count) }
         ensures within { read_of self.new ≤ read_of self.old + length piece.now }
         ensures machine { actor.new.machine ≡ actor.old.machine }
         ensures own { (k : Telling) (g : Graph) → IsOracleFor k g self.old
@@ -110,8 +120,22 @@ impl<'p> Oracle<'p> {
         ensures ready { OnOk result (IsReady self.new × IsTrue actor.new.usable) }
     {
         match self {
-            Oracle::Paths(paths) => paths.go_on(actor, piece, code, out),
-            Oracle::Table(follower) => follower.go_on(actor, piece, out),
+            Oracle::Paths(paths) => {
+                let count = paths.go_on(actor, piece, code, out)?;
+                Ok(Advance { count, ahead: None })
+            }
+            Oracle::Table(follower) => follower.go_along(approach, actor, piece, out),
+        }
+    }
+
+    /// The state to which a piece leads from a state of the table, if there is one and it tells
+    /// nothing of the piece.
+    pub fn glance(&self, state: u32, piece: &[u8]) -> Option<u32>
+        ensures { IfSome result (λ q. TellsNoneOf self.now state q piece.now) }
+    {
+        match self {
+            Oracle::Paths(_) => None,
+            Oracle::Table(follower) => follower.glance(state, piece),
         }
     }
 
@@ -154,5 +178,34 @@ impl<'p> Oracle<'p> {
         let parsed = self.end(code)?;
         speak(actor, code.as_slice(), out)?;
         Ok(parsed)
+    }
+
+    /// Takes the end after bytes of which it tells nothing and that it wasn't given, and writes
+    /// what they say. Nothing is done, and the answer is `false`, where there is no parse, or that
+    /// can't be learnt.
+    pub fn finish_past(
+        &mut self,
+        actor: &mut Actor<'p>,
+        bytes: &[u8],
+        out: &mut Vec<u8>,
+    ) -> Result<bool, StageFault>
+        requires actor { IsTrue actor.old.usable }
+        requires learnt { learnt_of self.old actor.old.machine ≡ actor.old.machine }
+        requires quiet { (q : ℕ) × IsQuietAhead self.old bytes.now q }
+        ensures finishes { IfOk result (λ done. IsTrue done → FinishesPast self.old actor.old
+            bytes.now out.old.items out.new.items) }
+        ensures none { IfOk result (λ done. done ≡ false → IsStill self.old self.new
+            × (actor.new ≡ actor.old) × (out.new.items ≡ out.old.items)) }
+        ensures refuses { IfErr result (RefusesNone self.old actor.old) }
+        ensures read { read_of self.new ≡ read_of self.old }
+        ensures machine { actor.new.machine ≡ actor.old.machine }
+        ensures own { (k : Telling) (g : Graph) → IsOracleFor k g self.old
+            → IsOracleFor k g self.new }
+        ensures learnt { (m : Graph) → learnt_of self.new m ≡ learnt_of self.old m }
+    {
+        match self {
+            Oracle::Paths(_) => Ok(false),
+            Oracle::Table(follower) => follower.end_past(actor, bytes, out),
+        }
     }
 }

@@ -1,12 +1,16 @@
 // How a follower goes along a piece.
 
-ghost use Rattle.std.specs.Prelude.{◌≡◌, ◌+◌, ◌^◌, ◌<◌, ◌≤◌, [], false, IfErr, IfOk, OnOk, IsTrue};
-ghost use Rattle.std.specs.Prelude.{length, take};
+ghost use Rattle.std.specs.Prelude.{◌≡◌, ◌+◌, ◌^◌, ◌<◌, ◌≤◌, [], false, None, IfErr, IfOk, IfSome};
+ghost use Rattle.std.specs.Prelude.{OnOk, IsTrue, length, take, drop};
+ghost use Rattle.kex_action.specs.Actors.{IsSettled};
+ghost use Rattle.kex_runner.specs.Quiet.{GoesQuietly};
 ghost use Rattle.kex_script.specs.Pieces.{code_over};
+ghost use Rattle.kex_stage.specs.Ahead.{FinishesPast, IsQuietAhead, told_front};
 ghost use Rattle.kex_stage.specs.Oracles.{Tells, TellsEnd};
 ghost use Rattle.kex_stage.specs.Works.{RefusesNone, StageGoes, StageWorks};
 ghost use Rattle.kex_stage.specs.Strides.{HasGone};
 
+use crate::advance::{Advance, Approach};
 use crate::follower::Follower;
 use crate::oracle::Oracle;
 use crate::speak::{StageFault, speak};
@@ -18,11 +22,13 @@ use kex_runner::Ended;
 // How many bytes are read at most by the runner at once.
 const HELD: usize = 4096;
 
-// How many bytes are good, and whether the byte after them was refused.
+// How many bytes are good, and whether the byte after them was refused. Else those after them may
+// be put off, all of them: then this is the state to which they lead.
 #[derive(Clone, Copy)]
 struct Stride {
     count: usize,
     refused: bool,
+    ahead: Option<u32>,
 }
 
 // How many bytes were taken, and how many of them are good: all, or all but the last.
@@ -74,6 +80,38 @@ impl<'p> Follower<'p> {
         })
     }
 
+    /// Takes the end after bytes of which nothing was told yet, and that it wasn't given: what they
+    /// say is written, if no register is held before them. Nothing is done, and the answer is
+    /// `false`, where a text can't end there, or that can't be learnt.
+    pub fn end_past(
+        &mut self,
+        actor: &mut Actor<'p>,
+        bytes: &[u8],
+        out: &mut Vec<u8>,
+    ) -> Result<bool, StageFault>
+        requires actor { IsTrue actor.old.usable }
+        requires learnt { actor.old.machine ≡ self.old.moves.machine }
+        requires told { self.old.runner.pending ≡ [] }
+        ensures finishes { IfOk result (λ done. IsTrue done → FinishesPast
+            (Oracle.Table self.old) actor.old bytes.now out.old.items out.new.items) }
+        ensures none { IfOk result (λ done. done ≡ false → (actor.new ≡ actor.old)
+            × (out.new.items ≡ out.old.items)) }
+        ensures refuses { IfErr result (RefusesNone (Oracle.Table self.old) actor.old) }
+        ensures same { (self.new.runner ≡ self.old.runner) × (self.new.moves ≡ self.old.moves) }
+        ensures machine { actor.new.machine ≡ actor.old.machine }
+        ensures usable { OnOk result (IsTrue actor.new.usable) }
+    {
+        if self.runner.holds_registers() {
+            return Ok(false);
+        }
+        let state = self.runner.state();
+        if !self.moves.end(state, actor, bytes, out)? {
+            return Ok(false);
+        }
+        speak(actor, &[], out)?;
+        Ok(true)
+    }
+
     // Reads the front of a piece by the runner alone, and writes what is said.
     fn step(
         &mut self,
@@ -91,6 +129,7 @@ impl<'p> Follower<'p> {
         ensures refuses { IfErr result (RefusesNone (Oracle.Table self.old) actor.old) }
         ensures some { IfOk result (λ s. 0 < length piece.now → s.refused ≡ false → 0 < s.count) }
         ensures count { IfOk result (λ s. s.count ≤ length piece.now) }
+        ensures none { IfOk result (λ s. s.ahead ≡ None) }
         ensures read { IfOk result (λ s. self.new.runner.read ≡ self.old.runner.read + s.count) }
         ensures within { self.new.runner.read ≤ self.old.runner.read + length piece.now }
         ensures told { OnOk result (self.new.runner.pending ≡ []) }
@@ -110,13 +149,15 @@ impl<'p> Follower<'p> {
         Ok(Stride {
             count: heard.good,
             refused,
+            ahead: None,
         })
     }
 
     // Reads the front of a piece by what is learnt, where no registers are. The table is at a state
-    // of its own then, with none.
+    // of its own then, with none. The first `held` bytes are known to be held back.
     fn run(
         &mut self,
+        held: usize,
         actor: &mut Actor<'p>,
         piece: &[u8],
         out: &mut Vec<u8>,
@@ -141,14 +182,39 @@ impl<'p> Follower<'p> {
             return Ok(0);
         }
         let state = self.runner.state();
-        let ran = self.moves.run(state, actor, piece, out)?;
+        let ran = self.moves.run_past(held, state, actor, piece, out)?;
         self.runner.jump(ran.state, ran.count as u64);
         Ok(ran.count)
     }
 
+    // The state to which bytes lead of which the table tells nothing, if there are any, and no
+    // registers are held before them.
+    fn look_ahead(&self, piece: &[u8]) -> Option<u32>
+        requires told { self.now.runner.pending ≡ [] }
+        ensures { IfSome result (IsQuietAhead (Oracle.Table self.now) piece.now) }
+    {
+        if piece.is_empty() || self.runner.holds_registers() {
+            return None;
+        }
+        self.glance(self.runner.state(), piece)
+    }
+
+    /// The state to which a piece leads from a state, if the table tells nothing of it.
+    pub fn glance(&self, state: u32, piece: &[u8]) -> Option<u32>
+        ensures { IfSome result (λ q. GoesQuietly self.now.runner.table state q piece.now) }
+    {
+        let seen = self.runner.glance(state, piece);
+        if seen.count < piece.len() {
+            return None;
+        }
+        Some(seen.state)
+    }
+
     // Reads some of a piece: by what is learnt, and then by the runner as far as it goes at once.
+    // The runner gets none of the rest if that may be put off.
     fn stride(
         &mut self,
+        approach: Approach,
         actor: &mut Actor<'p>,
         piece: &[u8],
         out: &mut Vec<u8>,
@@ -163,8 +229,11 @@ impl<'p> Follower<'p> {
         ensures gone { IfOk result (λ s. HasGone s.refused (Oracle.Table self.old) (Oracle.Table
             self.new) actor.old actor.new piece.now s.count out.old.items out.new.items) }
         ensures refuses { IfErr result (RefusesNone (Oracle.Table self.old) actor.old) }
-        ensures some { IfOk result (λ s. s.refused ≡ false → 0 < s.count) }
+        ensures some { IfOk result (λ s. s.refused ≡ false → s.ahead ≡ None → 0 < s.count) }
         ensures count { IfOk result (λ s. s.count ≤ length piece.now) }
+        ensures ahead { IfOk result (λ s. IfSome s.ahead
+            (IsQuietAhead (Oracle.Table self.new) (drop s.count piece.now))) }
+        ensures waits { IfOk result (λ s. approach.puts_off ≡ false → s.ahead ≡ None) }
         ensures read { IfOk result (λ s. self.new.runner.read ≡ self.old.runner.read + s.count) }
         ensures within { self.new.runner.read ≤ self.old.runner.read + length piece.now }
         ensures told { OnOk result (self.new.runner.pending ≡ []) }
@@ -173,14 +242,73 @@ impl<'p> Follower<'p> {
         ensures moves { self.new.moves ≡ self.old.moves }
         ensures machine { actor.new.machine ≡ actor.old.machine }
     {
-        let ran = self.run(actor, piece, out)?;
+        let ran = self.run(approach.held, actor, piece, out)?;
         let rest = &piece[ran..];
+        if approach.puts_off {
+            let ahead = self.look_ahead(rest);
+            if ahead.is_some() {
+                return Ok(Stride {
+                    count: ran,
+                    refused: false,
+                    ahead,
+                });
+            }
+        }
         let next = &rest[..rest.len().min(HELD)];
         let stepped = self.step(actor, next, out)?;
         Ok(Stride {
             count: ran + stepped.count,
             refused: stepped.refused,
+            ahead: None,
         })
+    }
+
+    /// Takes a piece, and writes what is said. Tells how many bytes are good. Bytes at the end of
+    /// which the table tells nothing are put off where they may be: the follower isn't given them.
+    pub fn go_along(
+        &mut self,
+        approach: Approach,
+        actor: &mut Actor<'p>,
+        piece: &[u8],
+        out: &mut Vec<u8>,
+    ) -> Result<Advance, StageFault>
+        requires usable { IsTrue self.old.runner.usable }
+        requires open { self.old.runner.ended ≡ false }
+        requires actor { IsTrue actor.old.usable }
+        requires learnt { actor.old.machine ≡ self.old.moves.machine }
+        requires room { self.old.runner.read + length piece.now < 2 ^ 64 }
+        ensures works { IfOk result (λ s. StageWorks (Oracle.Table self.old) (Oracle.Table
+            self.new) actor.old actor.new (told_front s piece.now) s.count out.old.items
+            out.new.items) }
+        ensures refuses { IfErr result (RefusesNone (Oracle.Table self.old) actor.old) }
+        ensures ahead { IfOk result (λ s. IfSome s.ahead (λ q. IsSettled actor.new
+            × IsQuietAhead (Oracle.Table self.new) (drop s.count piece.now) q)) }
+        ensures waits { IfOk result (λ s. approach.puts_off ≡ false → s.ahead ≡ None) }
+        ensures count { IfOk result (λ s. s.count ≤ length piece.now) }
+        ensures read { IfOk result (λ s. self.new.runner.read ≡ self.old.runner.read + s.count) }
+        ensures within { self.new.runner.read ≤ self.old.runner.read + length piece.now }
+        ensures usable { OnOk result (IsTrue self.new.runner.usable × IsTrue actor.new.usable) }
+        ensures open { self.new.runner.ended ≡ false }
+        ensures moves { self.new.moves ≡ self.old.moves }
+        ensures machine { actor.new.machine ≡ actor.old.machine }
+    {
+        speak(actor, &[], out)?;
+        let _none = self.step(actor, &piece[..0], out)?;
+        let mut at = 0;
+        let mut ahead = None;
+        'strides: while at < piece.len() && ahead.is_none() {
+            let stride = self.stride(approach, actor, &piece[at..], out)?;
+            at += stride.count;
+            if stride.refused {
+                return Ok(Advance {
+                    count: at,
+                    ahead: None,
+                });
+            }
+            ahead = stride.ahead;
+        }
+        speak(actor, &[], out)?;
+        Ok(Advance { count: at, ahead })
     }
 
     /// Takes a piece, and writes what is said. Tells how many bytes are good.
@@ -205,17 +333,11 @@ impl<'p> Follower<'p> {
         ensures moves { self.new.moves ≡ self.old.moves }
         ensures machine { actor.new.machine ≡ actor.old.machine }
     {
-        speak(actor, &[], out)?;
-        let _none = self.step(actor, &piece[..0], out)?;
-        let mut at = 0;
-        'strides: while at < piece.len() {
-            let stride = self.stride(actor, &piece[at..], out)?;
-            at += stride.count;
-            if stride.refused {
-                return Ok(at);
-            }
-        }
-        speak(actor, &[], out)?;
-        Ok(at)
+        let approach = Approach {
+            held: 0,
+            puts_off: false,
+        };
+        let advance = self.go_along(approach, actor, piece, out)?;
+        Ok(advance.count)
     }
 }

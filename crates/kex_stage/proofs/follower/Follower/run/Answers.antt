@@ -19,12 +19,12 @@ jump-requires-clause-place c =
 
 pub returns-clause-goes : goal.returns-clause-goes
 returns-clause-goes c =
-    runs_go c.args.self.now _ c.args.actor.now c.run.new.actor c.in_ok-ran.ran.state c.in_ok-ran.ran.count (take c.in_ok-ran.ran.count c.args.piece.now) c.args.out.now.items c.run.new.out.items
+    runs_go c.args.self.now _ c.args.actor.now c.run_past.new.actor c.in_ok-ran.ran.state c.in_ok-ran.ran.count (take c.in_ok-ran.ran.count c.args.piece.now) c.args.out.now.items c.run_past.new.out.items
     c.requires.told
     (none_held c.holds_registers.result c.args.self.now.runner.registers c.if-holds_registers.false c.holds_registers.ensures.1)
     c.in_ok-ran.ensures.same
     (ap (λ z. z.table) c.jump.ensures.jumped)
     c.in_ok-ran.ensures.machine
     (length-take-le c.in_ok-ran.ran.count c.args.piece.now c.in_ok-ran.ensures.within)
-    (subst (λ q. RunsOn c.args.self.now.moves.table c.args.actor.now c.run.new.actor q c.in_ok-ran.ran.state (take c.in_ok-ran.ran.count c.args.piece.now) c.args.out.now.items c.run.new.out.items) c.state-state.ensures.same c.in_ok-ran.ensures.runs)
+    (subst (λ q. RunsOn c.args.self.now.moves.table c.args.actor.now c.run_past.new.actor q c.in_ok-ran.ran.state (take c.in_ok-ran.ran.count c.args.piece.now) c.args.out.now.items c.run_past.new.out.items) c.state-state.ensures.same c.in_ok-ran.ensures.runs)
     c.jump.ensures.stands

@@ -1,11 +1,14 @@
-use Rattle.std.proofs.Common.{◌≡◌, ◌+◌, ◌-◌, [], List, ℕ, true, length, take, drop, sym, ap, subst, ◌∙◌, arith, length-drop}
+use Rattle.std.proofs.Common.{◌≡◌, ◌≤◌, ◌+◌, ◌-◌, [], List, ℕ, true, None, IfSome, refl, length, take, drop, sym, ap, subst, ◌∙◌, arith, length-drop}
 use Rattle.std.proofs.lemmas.List.{length-take-le, take_all, take_rest}
 use Rattle.kex_stage.specs.declared.oracle.Oracle.TheVariants.{Table}
+use Rattle.kex_stage.specs.Ahead.{IsQuietAhead}
 use Rattle.kex_stage.specs.Works.{RefusesNone, StageGoes, StageWorks}
 use Rattle.kex_stage.specs.Strides.{HasGone}
-use Rattle.kex_stage.proofs.Followers.{cut_at, goes_more, none_refused, rests, settles, taken_both, works_more}
+use Rattle.kex_stage.proofs.Followers.{cut_at, goes_more, none_refused, rest_after, rests, taken_both, works_more, works_till}
 use Rattle.kex_stage.proofs.NoRefusals.{if_fault, none_on, rest_none}
-use Rattle.kex_stage.proofs.follower.Follower.go_on.Goals as goal
+use Rattle.kex_stage.proofs.follower.Follower.go_along.Goals as goal
+use Rattle.kex_stage.proofs.follower.Follower.go_along.Goals.{then-strides-test+else-is_none, else-strides-test}
+use Rattle.std.specs.Prelude.{false, is_some, not}
 
 pub strides-init : goal.strides-init
 strides-init c =
@@ -18,6 +21,8 @@ strides-init c =
       goes = goes_more (Table c.args.self.now) (Table c.args.self.now) (Table c.step.new.self) c.args.actor.now c.speak.new.actor c.step.new.actor [] [] c.args.out.now.items c.speak.new.out.items c.step.new.out.items
           (rests (Table c.args.self.now) c.args.actor.now c.speak.new.actor c.args.out.now.items c.speak.new.out.items c.in_ok-speak.ensures.took c.in_ok-speak.ensures.machine)
           said;
+      ahead = tt;
+      waits = λ _. refl;
       told = n.told;
       moves = n.moves;
       machine = n.machine ∙ c.in_ok-speak.ensures.machine;
@@ -43,6 +48,8 @@ strides-preserved c =
     record {
       at = omega (arith, c.in_ok-stride.ensures.count, long, c.strides.invariant.at);
       goes = subst (λ p. StageGoes (Table c.args.self.now) (Table c.stride.new.self) c.args.actor.now c.stride.new.actor p c.args.out.now.items c.stride.new.out.items) (taken_both c.args.piece.now c.strides.at c.in_ok-stride.stride.count c.strides.invariant.at) (goes_more (Table c.args.self.now) (Table c.strides.self) (Table c.stride.new.self) c.args.actor.now c.strides.actor c.stride.new.actor (take c.strides.at c.args.piece.now) (take c.in_ok-stride.stride.count rest) c.args.out.now.items c.strides.out.items c.stride.new.out.items c.strides.invariant.goes gone);
+      ahead = subst (λ l. IfSome c.in_ok-stride.stride.ahead (IsQuietAhead (Table c.stride.new.self) l)) (rest_after c.args.piece.now c.strides.at c.in_ok-stride.stride.count) c.in_ok-stride.ensures.ahead;
+      waits = c.in_ok-stride.ensures.waits;
       told = c.in_ok-stride.ensures.told;
       moves = c.in_ok-stride.ensures.moves ∙ c.strides.invariant.moves;
       machine = c.in_ok-stride.ensures.machine ∙ c.strides.invariant.machine;
@@ -53,10 +60,12 @@ strides-preserved c =
 
 pub returns-clause-works : goal.returns-clause-works
 returns-clause-works c =
-    let all : c.strides.at ≡ length c.args.piece.now = omega (arith, c.strides-test.false, c.strides.invariant.at) in
-    let goes = subst (λ p. StageGoes (Table c.args.self.now) (Table c.strides.self) c.args.actor.now c.strides.actor p c.args.out.now.items c.strides.out.items) (take_all c.strides.at c.args.piece.now c.strides-test.false) c.strides.invariant.goes in
-    subst (λ k. StageWorks (Table c.args.self.now) (Table c.strides.self) c.args.actor.now c.speak-2.new.actor c.args.piece.now k c.args.out.now.items c.speak-2.new.out.items) (sym all)
-    (settles (Table c.args.self.now) c.strides.self c.args.actor.now c.strides.actor c.speak-2.new.actor c.args.piece.now c.args.out.now.items c.strides.out.items c.speak-2.new.out.items c.strides.invariant.told goes c.in_ok-speak-2.ensures.took c.in_ok-speak-2.ensures.machine)
+    let i = c.strides.invariant in
+    let left : c.strides.ahead ≡ None → length c.args.piece.now ≤ c.strides.at = elim c.strides-test.branch [
+      | then-strides-test+else-is_none w ↦ λ is. let bad : false ≡ true = ap is_some (sym is) ∙ w.is_none.ensures ∙ ap not w.if-is_none.false in cc
+      | else-strides-test w ↦ λ _. w.strides-test.false
+    ] in
+    works_till (Table c.args.self.now) c.strides.self c.args.actor.now c.strides.actor c.speak-2.new.actor c.args.piece.now c.strides.at c.strides.ahead c.args.out.now.items c.strides.out.items c.speak-2.new.out.items i.at left i.told i.goes c.in_ok-speak-2.ensures.took c.in_ok-speak-2.ensures.machine
 
 pub returns-in_err-speak-clause-refuses : goal.returns-in_err-speak-clause-refuses
 returns-in_err-speak-clause-refuses c =

@@ -1,7 +1,7 @@
 use Rattle.std.proofs.Common.{◌≡◌, [], refl, sym, subst, ◌∙◌}
 use Rattle.kex_machine.specs.Answers.{IsViableFor}
 use Rattle.kex_stage.specs.Oracles.{Hears, IsOracleFor, learnt_of}
-use Rattle.kex_stage.proofs.stage.StageWorkerBeginsAnew.begin_anew.Goals as goal
+use Rattle.kex_stage.proofs.team.Team.begin_anew.Goals as goal
 
 pub invariant_of-self : goal.invariant_of-self
 invariant_of-self c =

@@ -1,12 +1,12 @@
 use Rattle.std.proofs.Common.{◌≡◌, false, IfOk, List, ℕ, subst, sym, ◌∙◌}
 use Rattle.kex_pipe.specs.Working.{CameToEnd}
-use Rattle.kex_stage.specs.Stages.{StageFollows, WorkerState}
+use Rattle.kex_stage.specs.Stages.{ClosesAs, TeamFollows, TeamState, teller_in}
 use Rattle.kex_stage.specs.Works.{RefusesNone}
-use Rattle.kex_stage.proofs.FedStages.{ClosesStage, stage_ends}
+use Rattle.kex_stage.proofs.FedStages.{stage_ends}
 use Rattle.kex_stage.proofs.NoRefusals.{Ends, ends_none}
 use Rattle.kex_stage.specs.Oracles.{IsOracleFor, learnt_of}
-use Rattle.kex_stage.proofs.stage.StageWorkerWorker.finish.Goals as goal
-use Rattle.kex_stage.proofs.stage.StageWorkerWorker.finish.Goals.{in-Ok, in-Err-Refused, in-Err-Memory}
+use Rattle.kex_stage.proofs.team.Team.finish.Goals as goal
+use Rattle.kex_stage.proofs.team.Team.finish.Goals.{in-Ok, in-Err-Refused, in-Err-Memory}
 
 pub returns-clause-ends : goal.returns-clause-ends
 returns-clause-ends c =
@@ -20,7 +20,7 @@ returns-clause-ends c =
           subst (λ r. IfOk r (λ parsed. Ends s.telling s.oracle s.actor x y parsed)) (sym w.result-is) (ends_none s.telling s.oracle s.actor x y false none)
       | in-Err-Memory w ↦ subst (λ r. IfOk r (λ parsed. Ends s.telling s.oracle s.actor x y parsed)) (sym w.result-is) tt
     ] in
-    subst (λ (z : WorkerState). IfOk c.match-finish.result (λ parsed. (w text : List ℕ) → StageFollows z.telling z.oracle z.actor w text → CameToEnd (λ u e t. ClosesStage z.telling z.actor.machine u e t) w text parsed x y)) c.self.view_is answered
+    subst (λ (z : TeamState). IfOk c.match-finish.result (λ parsed. (w text : List ℕ) → TeamFollows z w text → CameToEnd (λ u e t. ClosesAs (teller_in z) u e t) w text parsed x y)) c.self.view_is answered
 
 pub invariant_of-self : goal.invariant_of-self
 invariant_of-self c =

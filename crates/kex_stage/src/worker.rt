@@ -1,0 +1,197 @@
+// What works in a stage.
+
+ghost use Rattle.std.specs.Prelude.{◌≡◌, ◌&&◌, ◌+◌, ◌<◌, ◌≤◌, ◌^◌, ◌++◌, [], ℕ, List, not, true};
+ghost use Rattle.std.specs.Prelude.{false, None, IfOk, OnOk, IsTrue, length};
+ghost use Rattle.kex_action.specs.Actors.{IsSettled};
+ghost use Rattle.kex_pipe.specs.Working.{CameToEnd, ReadMore};
+ghost use Rattle.kex_stage.specs.Ahead.{IsQuietAhead};
+ghost use Rattle.kex_stage.specs.Oracles.{oracle_ended, read_of, usable_of};
+ghost use Rattle.kex_stage.specs.Plans.{teller_of};
+ghost use Rattle.kex_stage.specs.StageLaws.{answering};
+ghost use Rattle.kex_stage.specs.Stages.{ClosesAs, FollowsBehind, Gives, IsTeamReady, SaysOf};
+ghost use Rattle.kex_stage.specs.Stages.{TeamFollows, teller_in};
+
+use crate::advance::Approach;
+use crate::plan::Plan;
+use crate::team::Team;
+use kex_code::memory::Memory;
+use kex_pipe::worker::{BeginsAnew, Worker};
+use std::alloc::Global;
+use std::marker::Model;
+use std::mem;
+
+/// Works over the plan that it borrows: bytes come in pieces, and what the plan's oracle tells of
+/// them goes out at once, as what the surviving paths agree on.
+///
+/// Bytes of which the oracle tells nothing are put off: oracle and actor are given them once it
+/// tells something. They are kept as they are, however many come.
+#[derive(Drop)]
+pub struct StageWorker<'p> {
+    alloc: Global,
+    team: Team<'p>,
+    // Bytes that the team wasn't given yet, and the state to which they lead.
+    ahead: Vec<u8>,
+    reached: u32,
+}
+
+impl<'p> Model for StageWorker<'p> {
+    ghost use Rattle.std.specs.Prelude.{◌<◌, ◌+◌, ◌^◌, length};
+    ghost use Rattle.kex_action.specs.Actors.{IsSettled};
+    ghost use Rattle.kex_stage.specs.Ahead.{IsQuietAhead};
+    ghost use Rattle.kex_stage.specs.Oracles.{read_of};
+    ghost use Rattle.kex_stage.specs.Stages.{StageState};
+
+    ghost Value = { StageState };
+
+    ghost view = { λ s. record { team = s.team; ahead = s.ahead.items } };
+
+    ghost invariant = { λ s. 0 < length s.ahead.items → IsSettled s.team.actor
+        × IsQuietAhead s.team.oracle s.ahead.items s.reached
+        × (read_of s.team.oracle + length s.ahead.items < 2 ^ 64) };
+}
+
+// Gives a team bytes of which its oracle tells nothing, and then the end.
+fn finish_behind(team: &mut Team, bytes: &[u8], out: &mut Vec<u8>) -> Result<bool, Memory>
+    requires ready { IsTeamReady team.old }
+    requires settled { IsSettled team.old.actor }
+    requires quiet { (q : ℕ) × IsQuietAhead team.old.oracle bytes.now q }
+    requires room { read_of team.old.oracle + length bytes.now < 2 ^ 64 }
+    ensures same { teller_in team.new ≡ teller_in team.old }
+    ensures ends { IfOk result (λ parsed. (w text : List ℕ) → TeamFollows team.old w text
+        → CameToEnd (ClosesAs (teller_in team.old)) (w ++ bytes.now) text parsed out.old.items
+        out.new.items) }
+    ensures read { read_of team.new.oracle ≤ read_of team.old.oracle + length bytes.now }
+{
+    if team.finish_past(bytes, out)? {
+        return Ok(true);
+    }
+    let approach = Approach {
+        held: 0,
+        puts_off: false,
+    };
+    let heard = team.hear(approach, bytes, out)?;
+    if heard.stop.is_some() {
+        return Ok(false);
+    }
+    team.finish(out)
+}
+
+impl<'p> StageWorker<'p> {
+    // Gives a piece to the team, which was given all before it. What the team puts off is kept.
+    fn hear(&mut self, held: usize, piece: &[u8], out: &mut Vec<u8>) -> Result<Option<u64>, Memory>
+        requires ready { IsTeamReady self.old.team }
+        requires none { self.old.ahead ≡ [] }
+        requires room { read_of self.old.team.oracle + length piece.now < 2 ^ 64 }
+        ensures same { teller_in self.new.team ≡ teller_in self.old.team }
+        ensures reads { IfOk result (λ at. (w text : List ℕ) → TeamFollows self.old.team w text
+            → ReadMore (SaysOf (teller_in self.old.team)) (FollowsBehind self.new) w text piece.now
+            at out.old.items out.new.items) }
+        ensures counted { read_of self.new.team.oracle + length self.new.ahead
+            ≤ read_of self.old.team.oracle + length piece.now }
+        ensures ready { IfOk result (λ at. at ≡ None → IsTeamReady self.new.team) }
+    {
+        let approach = Approach {
+            held,
+            puts_off: true,
+        };
+        let heard = self.team.hear(approach, piece, out)?;
+        if let Some(state) = heard.advance.ahead {
+            let mut ahead = Vec::new(self.alloc);
+            ahead.extend_from_slice(&piece[heard.advance.count..])?;
+            self.ahead = ahead;
+            self.reached = state;
+        }
+        Ok(heard.stop)
+    }
+
+    // Puts a piece off, where the team wasn't given bytes before it and the oracle tells nothing of
+    // the piece either. Tells whether it is so.
+    fn put_off(&mut self, piece: &[u8]) -> Result<bool, Memory>
+        requires ready { IsTeamReady self.old.team }
+        requires some { 0 < length self.old.ahead }
+        requires room { read_of self.old.team.oracle + length self.old.ahead + length piece.now
+            < 2 ^ 64 }
+        ensures same { teller_in self.new.team ≡ teller_in self.old.team }
+        ensures reads { IfOk result (λ done. IsTrue done → (w text : List ℕ)
+            → FollowsBehind self.old w text
+            → SaysOf (teller_in self.old.team) (w ++ piece.now) None text
+            × FollowsBehind self.new (w ++ piece.now) text) }
+        ensures none { IfOk result (λ done. done ≡ false → self.new ≡ self.old) }
+        ensures counted { read_of self.new.team.oracle + length self.new.ahead
+            ≤ read_of self.old.team.oracle + length self.old.ahead + length piece.now }
+        ensures ready { IsTeamReady self.new.team }
+    {
+        let Some(state) = self.team.glance(self.reached, piece) else {
+            return Ok(false);
+        };
+        self.ahead.extend_from_slice(piece)?;
+        self.reached = state;
+        Ok(true)
+    }
+}
+
+impl<'p> Worker for StageWorker<'p> {
+    ghost use Rattle.kex_stage.specs.Plans.{Teller};
+
+    type Basis = &'p Plan;
+
+    ghost Machine = { Teller };
+
+    ghost machine_in = { λ plan. teller_of plan.now };
+
+    ghost machine = { λ s. teller_in s.team };
+
+    ghost says = { λ t w at text. SaysOf t w at text };
+
+    ghost closes = { λ t w parsed text. ClosesAs t w parsed text };
+
+    ghost gives = { λ t n w e a. Gives (record { machine = t; limit = n }) w e a };
+
+    ghost follows = { λ s w text. FollowsBehind s w text };
+
+    ghost is_ready = { λ s. usable_of s.team.oracle && not (oracle_ended s.team.oracle)
+        && s.team.actor.usable };
+
+    ghost counted = { λ s. read_of s.team.oracle + length s.ahead };
+
+    ghost may_want = { true };
+
+    ghost answers = { λ t. answering t };
+
+    fn start(alloc: Global, basis: &'p Plan) -> Result<StageWorker<'p>, Memory> {
+        Ok(StageWorker {
+            alloc,
+            team: Team::new(alloc, basis)?,
+            ahead: Vec::new(alloc),
+            reached: 0,
+        })
+    }
+
+    fn go_on(&mut self, piece: &[u8], out: &mut Vec<u8>) -> Result<Option<u64>, Memory> {
+        let held = self.ahead.len();
+        if held == 0 {
+            return self.hear(0, piece, out);
+        }
+        if self.put_off(piece)? {
+            return Ok(None);
+        }
+        let mut text = mem::replace(&mut self.ahead, Vec::new(self.alloc));
+        text.extend_from_slice(piece)?;
+        self.hear(held, &text, out)
+    }
+
+    fn finish(&mut self, out: &mut Vec<u8>) -> Result<bool, Memory> {
+        let text = mem::replace(&mut self.ahead, Vec::new(self.alloc));
+        if text.is_empty() {
+            return self.team.finish(out);
+        }
+        finish_behind(&mut self.team, &text, out)
+    }
+}
+
+impl<'p> BeginsAnew for StageWorker<'p> {
+    fn begin_anew(&mut self) -> Result<(), Memory> {
+        self.ahead.clear();
+        self.team.begin_anew()
+    }
+}
