@@ -15,6 +15,8 @@ mod faults;
 #[cfg(test)]
 mod gates;
 #[cfg(test)]
+mod held;
+#[cfg(test)]
 mod large;
 pub mod long;
 #[cfg(test)]

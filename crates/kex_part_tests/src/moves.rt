@@ -59,3 +59,101 @@ fn runs_take_the_whole_piece(rt: HostRuntime) -> Result<(), Fail> {
     }
     Ok(())
 }
+
+// Whether the end after a text is learnt, and what text and end say.
+fn end_along<'p>(
+    alloc: Global,
+    table: &'p Table,
+    machine: &'p Trimmed,
+    text: &[u8],
+) -> Result<(bool, Vec<u8>), Fail> {
+    let mut moves = Moves::new(alloc, table, machine)?;
+    let mut actor = Actor::new(alloc, machine)?;
+    let mut out = Vec::new(alloc);
+    actor.take(&[], &mut out)?;
+    let done = moves.end(0, &mut actor, text, &mut out)?;
+    Ok((done, out))
+}
+
+// The same along the table of a program.
+fn end(alloc: Global, program: &str, text: &[u8]) -> Result<(bool, Vec<u8>), Fail> {
+    let compiled = compile(alloc, program.as_bytes(), &ANY)?;
+    let plan = compiled.stages().first().ok_or("no stage")?;
+    let table = clear_table(alloc, plan.table().ok_or("no table")?, LONGEST)?;
+    end_along(alloc, &table, plan.machine(), text)
+}
+
+// A text that its end settles: for the first side and for the second, after leaps, with a side that
+// drops it, with a register, and where each of its bytes is held up to the next.
+const ENDS: &str = r#"
+main := "1 " /[a-z][a-z!]*!/ | "0 " /[a-z][a-z!]*/ => ab!cd! => 1 ab!cd!
+main := "1 " /[a-z][a-z!]*!/ | "0 " /[a-z][a-z!]*/ => ab!cd => 0 ab!cd
+main := (/[a-z]*;/ | /[a-z]*,/)* ("1 " /[0-9][0-9!]*!/ | "0 " /[0-9][0-9!]*/) => ab;cd,12!3 => ab;cd,0 12!3
+main := ~/[a-z][a-z!]*!/ "-" | /[a-z][a-z!]*/ => abc! => -
+main := r@/[a-z][a-z!]*!/ "[" !r "]" | /[a-z][a-z!]*/ => abc! => [abc!]
+main := /[a-z]([a-z ]*[a-z])?/ ~/ */ => ab cd   => ab cd
+"#;
+
+#[test]
+fn ends_are_learnt(rt: HostRuntime) -> Result<(), Fail> {
+    for row in ENDS.trim().lines() {
+        let (program, rest) = row.split_once(" => ").ok_or("no text")?;
+        let (text, said) = rest.split_once(" => ").ok_or("no output")?;
+        let (done, out) = end(rt.alloc(), program, text.as_bytes())?;
+        assert!(rt; done, "{program}");
+        assert!(rt; out.as_slice() == said.as_bytes(), "{program}");
+    }
+    Ok(())
+}
+
+// Nothing is done where a text can't end.
+#[test]
+fn a_text_that_breaks_off_is_left(rt: HostRuntime) -> Result<(), Fail> {
+    let program = "main := \"1 \" /[a-z]*!/ | \"0 \" /[a-z]*;/";
+    let (done, out) = end(rt.alloc(), program, b"ab")?;
+    assert!(rt; !done);
+    assert!(rt; out.is_empty());
+    Ok(())
+}
+
+// How many bytes one run takes along a table, where a front of its piece is known to be held back,
+// and what it writes.
+fn run_past_along<'p>(
+    alloc: Global,
+    table: &'p Table,
+    machine: &'p Trimmed,
+    held: usize,
+    piece: &[u8],
+) -> Result<(usize, Vec<u8>), Fail> {
+    let mut moves = Moves::new(alloc, table, machine)?;
+    let mut actor = Actor::new(alloc, machine)?;
+    let mut out = Vec::new(alloc);
+    actor.take(&[], &mut out)?;
+    let ran = moves.run_past(held, 0, &mut actor, piece, &mut out)?;
+    Ok((ran.count, out))
+}
+
+// A leap of more bytes than are looked at for one, and than a sheet has, is found where all but its
+// last byte are known to be held back.
+#[test]
+fn a_leap_goes_past_what_is_held_back(rt: HostRuntime) -> Result<(), Fail> {
+    let alloc = rt.alloc();
+    let compiled = compile(
+        alloc,
+        b"main := (\"1 \" /[a-z]*!/ | \"0 \" /[a-z]*;/)*",
+        &ANY,
+    )?;
+    let plan = compiled.stages().first().ok_or("no stage")?;
+    let table = clear_table(alloc, plan.table().ok_or("no table")?, LONGEST)?;
+    let mut piece = b"ab".repeat(alloc, 100_000)?;
+    piece.push(b'!')?;
+    let (none, nothing) = run_past_along(alloc, &table, plan.machine(), 0, &piece)?;
+    assert_eq!(rt; none, 0);
+    assert!(rt; nothing.is_empty());
+    let (all, said) = run_past_along(alloc, &table, plan.machine(), 200_000, &piece)?;
+    assert_eq!(rt; all, 200_001);
+    let mut wanted = b"1 ".to_vec(alloc)?;
+    wanted.extend_from_slice(&piece)?;
+    assert!(rt; said.as_slice() == wanted.as_slice());
+    Ok(())
+}
