@@ -3,11 +3,11 @@ use Rattle.std.proofs.Common.{◌≡◌, ℕ, ◌<◌, ◌≤◌, ◌+◌, Bool,
 use Rattle.std.specs.Prelude.{is_some}
 use Rattle.kex_code.specs.declared.symbol.Symbol.{Symbol}
 use Rattle.kex_machine.specs.Nodes.{Graph}
-use Rattle.kex_machine.specs.Answers.{IsViableFor}
+use Rattle.kex_machine.specs.Answers.{HasRun, IsViableFor}
 use Rattle.kex_action.specs.Actors.{Position, IsSettled}
 use Rattle.kex_pipe.specs.Working.{CameToEnd, ReadMore}
 use Rattle.kex_sst.specs.Tables.{Transducer}
-use Rattle.kex_sst.specs.Passes.{first_pass, passes, passes_if}
+use Rattle.kex_sst.specs.Passes.{Pass, ended_by, first_pass, passes, passes_if}
 use Rattle.kex_sst.proofs.Passes.{passes_more}
 use Rattle.kex_runner.specs.Quiet.{GoesQuietly}
 use Rattle.kex_stage.specs.declared.follower.Follower.{Follower}
@@ -18,7 +18,7 @@ use Rattle.kex_runner.specs.Running.{IsRunOf}
 use Rattle.kex_stage.specs.Plans.{IsTableAs, Teller, teller}
 use Rattle.kex_stage.specs.Oracles.{Hears, Agrees, IsReady, oracle_ended, read_of, usable_of}
 use Rattle.kex_stage.specs.Works.{StageWorks}
-use Rattle.kex_stage.specs.Ahead.{IsQuietAhead, IsStill, TellsNoneOf, given_if}
+use Rattle.kex_stage.specs.Ahead.{CannotEnd, IsQuietAhead, IsStill, TellsNoneOf, given_if}
 use Rattle.kex_stage.specs.Stages.{ClosesAs, FollowsBehind, SaysOf, StageFollows, StageState, TeamFollows, TeamState, teller_in}
 use Rattle.kex_stage.proofs.OracleAnswers.{says}
 use Rattle.kex_stage.proofs.ByTable.{still_live, table_agrees}
@@ -44,6 +44,16 @@ quiet_agrees f k g v rest c q h good quiet =
     let on = quiet.1 (c ++ f.runner.pending) f.runner.registers in
     let there = passes_more t (Some (first_pass t.initial)) v rest ∙ ap (λ o. passes_if t o rest) live.passes ∙ on.1 in
     subst (λ z. Agrees k g (v ++ rest) z) (ap (λ z. c ++ z) quiet.0 ∙ append-nil c) (table_agrees k g t h.0 h.1 (v ++ rest) (record { state = q; code = c ++ f.runner.pending; registers = on.0 }) there)
+
+-- and no parse ends where the table can't end
+quiet_cut : (f : Follower) (k : Telling) (g : Graph) (v rest : List ℕ) (c : List Symbol) (q : ℕ) → Hears k g (Table f) v c → IsViableFor g v → IsQuietAhead (Table f) rest q → CannotEnd (Table f) q → ¬ HasRun g (v ++ rest)
+quiet_cut f k g v rest c q h good quiet cut =
+    let t = f.runner.table in
+    let live = still_live k g t h.0 h.1 f.runner v c refl h.3 good in
+    let on = quiet.1 (c ++ f.runner.pending) f.runner.registers in
+    let there = passes_more t (Some (first_pass t.initial)) v rest ∙ ap (λ o. passes_if t o rest) live.passes ∙ on.1 in
+    let p : Pass = record { state = q; code = c ++ f.runner.pending; registers = on.0 } in
+    h.1.cut (v ++ rest) p there (ap (λ o. ended_by o p) cut)
 
 -- and what was said
 pub quiet_says : (k : Telling) (o : Oracle) (a : Position) (v rest text : List ℕ) (q : ℕ) → StageFollows k o a v text → IsSettled a → IsQuietAhead o rest q → SaysOf (teller k a.machine) (v ++ rest) None text
@@ -195,3 +205,18 @@ is_some_of (Some x) e = (x, refl)
 pub none_of : (o : Option ℕ) → false ≡ is_some o → o ≡ None
 none_of None e = refl
 none_of (Some x) e = let bad : false ≡ true = e in cc
+
+-- the end after bytes that can't end
+pub cannot_end_behind : (team : TeamState) (w bs text : List ℕ) (q : ℕ) (x : List ℕ) → TeamFollows team w text → IsSettled team.actor → IsQuietAhead team.oracle bs q → CannotEnd team.oracle q → CameToEnd (ClosesAs (teller_in team)) (w ++ bs) text false x x
+cannot_end_behind team w bs text q x f settled quiet cut =
+    let said = quiet_says team.telling team.oracle team.actor w bs text q f settled quiet in
+    let none = no_run team.telling team.oracle team.actor w bs text q f quiet cut in
+    record {
+      more = [];
+      written = sym (append-nil x);
+      closes = subst (λ l. ClosesAs (teller_in team) (w ++ bs) false l) (sym (append-nil text)) (said.0, none, said.1);
+    }
+  where
+    no_run : (k : Telling) (o : Oracle) (a : Position) (w bs text : List ℕ) (q : ℕ) → StageFollows k o a w text → IsQuietAhead o bs q → CannotEnd o q → ¬ HasRun a.machine (w ++ bs)
+    no_run k (Paths p) a w bs text q f quiet cut = absurd cut
+    no_run k (Table t) a w bs text q f quiet cut = quiet_cut t k a.machine w bs f.followed.code q f.followed.hears f.good quiet cut

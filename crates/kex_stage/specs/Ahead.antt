@@ -1,8 +1,9 @@
 -- Bytes that an oracle isn't given yet, since it tells nothing of them.
-use Rattle.std.specs.Prelude.{◌≡◌, ℕ, List, [], ◌++◌, Option, Some, None, take}
+use Rattle.std.specs.Prelude.{◌≡◌, ℕ, List, [], ◌++◌, Option, Some, None, slice_get, take}
 use Rattle.kex_machine.specs.Nodes.{Graph}
 use Rattle.kex_machine.specs.Answers.{IsViableFor, MeansByRun}
 use Rattle.kex_action.specs.Actors.{Position}
+use Rattle.kex_sst.specs.Passes.{way_of}
 use Rattle.kex_runner.specs.Quiet.{GoesQuietly}
 use Rattle.kex_stage.specs.declared.advance.Advance.{Advance}
 use Rattle.kex_stage.specs.declared.oracle.Oracle.{Oracle}
@@ -28,6 +29,11 @@ TellsNoneOf (Table f) q r v = GoesQuietly f.runner.table q r v
 abbrev pub IsQuietAhead : Oracle → List ℕ → ℕ → Type 0
 IsQuietAhead (Paths p) v q = ⊥
 IsQuietAhead (Table f) v q = (f.runner.pending ≡ []) × GoesQuietly f.runner.table f.runner.state q v
+
+-- no text ends at this state
+abbrev pub CannotEnd : Oracle → ℕ → Type 0
+CannotEnd (Paths p) q = ⊥
+CannotEnd (Table f) q = way_of (slice_get f.runner.table.states q) ≡ None
 
 -- the oracle is as before, whatever else was learnt
 abbrev pub IsStill : Oracle → Oracle → Type 0

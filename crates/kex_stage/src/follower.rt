@@ -10,6 +10,7 @@ use kex_moves::moves::Moves;
 use kex_moves::phrases::Phrases;
 use kex_runner::runner::Runner;
 use kex_script::piece::ByteWord;
+use kex_sst::table::Table;
 use std::alloc::Global;
 
 /// A runner of a table; what was learnt of the table and the actor, by which both go on at once
@@ -22,9 +23,11 @@ pub struct Follower<'p> {
     pub phrases: Phrases<'p>,
     // What was passed on last.
     pub pieces: Vec<ByteWord>,
+    pub table: &'p Table,
     ghost same_words: { phrases.words ≡ runner.words },
     ghost same_machine: { phrases.machine ≡ moves.machine },
     ghost same_table: { moves.table ≡ runner.table },
+    ghost own_table: { table.now ≡ runner.table },
 }
 
 impl<'p> Follower<'p> {
@@ -49,6 +52,7 @@ impl<'p> Follower<'p> {
             moves,
             phrases,
             pieces: Vec::new(alloc),
+            table: route.table(),
         })
     }
 }

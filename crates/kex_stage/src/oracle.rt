@@ -6,8 +6,8 @@ ghost use Rattle.kex_action.specs.Actors.{IsSettled};
 ghost use Rattle.kex_machine.specs.Answers.{IsViableFor};
 ghost use Rattle.kex_machine.specs.Nodes.{Graph};
 ghost use Rattle.kex_stage.specs.declared.plan.Telling.{Telling};
-ghost use Rattle.kex_stage.specs.Ahead.{FinishesPast, IsQuietAhead, IsStill, TellsNoneOf};
-ghost use Rattle.kex_stage.specs.Ahead.{told_front};
+ghost use Rattle.kex_stage.specs.Ahead.{CannotEnd, FinishesPast, IsQuietAhead, IsStill};
+ghost use Rattle.kex_stage.specs.Ahead.{TellsNoneOf, told_front};
 ghost use Rattle.kex_stage.specs.Oracles.{Hears, IsOracleFor, IsReady, TellsEnd, learnt_of};
 ghost use Rattle.kex_stage.specs.Oracles.{read_of, usable_of};
 ghost use Rattle.kex_stage.specs.Works.{RefusesNone, StageFinishes, StageWorks};
@@ -136,6 +136,16 @@ impl<'p> Oracle<'p> {
         match self {
             Oracle::Paths(_) => None,
             Oracle::Table(follower) => follower.glance(state, piece),
+        }
+    }
+
+    /// Whether a text may end at a state of the table. Paths are asked at the end.
+    pub fn may_end(&self, state: u32) -> bool
+        ensures { result ≡ false → CannotEnd self.now state }
+    {
+        match self {
+            Oracle::Paths(_) => true,
+            Oracle::Table(follower) => follower.may_end(state),
         }
     }
 

@@ -5,7 +5,8 @@ ghost use Rattle.std.specs.Prelude.{OnOk, IsTrue, length, take, drop};
 ghost use Rattle.kex_action.specs.Actors.{IsSettled};
 ghost use Rattle.kex_runner.specs.Quiet.{GoesQuietly};
 ghost use Rattle.kex_script.specs.Pieces.{code_over};
-ghost use Rattle.kex_stage.specs.Ahead.{FinishesPast, IsQuietAhead, told_front};
+ghost use Rattle.kex_stage.specs.Ahead.{CannotEnd, FinishesPast, IsQuietAhead};
+ghost use Rattle.kex_stage.specs.Ahead.{told_front};
 ghost use Rattle.kex_stage.specs.Oracles.{Tells, TellsEnd};
 ghost use Rattle.kex_stage.specs.Works.{RefusesNone, StageGoes, StageWorks};
 ghost use Rattle.kex_stage.specs.Strides.{HasGone};
@@ -154,7 +155,8 @@ impl<'p> Follower<'p> {
     }
 
     // Reads the front of a piece by what is learnt, where no registers are. The table is at a state
-    // of its own then, with none. The first `held` bytes are known to be held back.
+    // of its own then, with none. The first `held` bytes are known to be held back, so nothing is
+    // learnt where there are no others.
     fn run(
         &mut self,
         held: usize,
@@ -178,6 +180,9 @@ impl<'p> Follower<'p> {
         ensures machine { actor.new.machine ≡ actor.old.machine }
         ensures usable { OnOk result (IsTrue actor.new.usable) }
     {
+        if held >= piece.len() {
+            return Ok(0);
+        }
         if self.runner.holds_registers() {
             return Ok(0);
         }
@@ -208,6 +213,16 @@ impl<'p> Follower<'p> {
             return None;
         }
         Some(seen.state)
+    }
+
+    /// Whether a text may end at a state of the table.
+    pub fn may_end(&self, state: u32) -> bool
+        ensures { result ≡ false → CannotEnd (Oracle.Table self.now) state }
+    {
+        match self.table.states().get(state as usize) {
+            None => false,
+            Some(row) => row.accepting().is_some(),
+        }
     }
 
     // Reads some of a piece: by what is learnt, and then by the runner as far as it goes at once.
@@ -297,7 +312,7 @@ impl<'p> Follower<'p> {
         let mut at = 0;
         let mut ahead = None;
         'strides: while at < piece.len() && ahead.is_none() {
-            let stride = self.stride(approach, actor, &piece[at..], out)?;
+            let stride = self.stride(approach.past(at), actor, &piece[at..], out)?;
             at += stride.count;
             if stride.refused {
                 return Ok(Advance {

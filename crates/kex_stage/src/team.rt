@@ -4,7 +4,8 @@ ghost use Rattle.std.specs.Prelude.{◌≡◌, ◌+◌, ◌<◌, ◌≤◌, ◌^
 ghost use Rattle.std.specs.Prelude.{◌++◌, true, IfSome, IsTrue, OnOk, drop, length};
 ghost use Rattle.kex_action.specs.Actors.{IsSettled};
 ghost use Rattle.kex_pipe.specs.Working.{CameToEnd, ReadMore};
-ghost use Rattle.kex_stage.specs.Ahead.{IsQuietAhead, IsStill, TellsNoneOf, given_if};
+ghost use Rattle.kex_stage.specs.Ahead.{CannotEnd, IsQuietAhead, IsStill};
+ghost use Rattle.kex_stage.specs.Ahead.{TellsNoneOf, given_if};
 ghost use Rattle.kex_stage.specs.Oracles.{read_of};
 ghost use Rattle.kex_stage.specs.Plans.{teller_of};
 ghost use Rattle.kex_stage.specs.Stages.{ClosesAs, IsTeamReady, SaysOf, TeamFollows};
@@ -133,6 +134,13 @@ impl<'p> Team<'p> {
         ensures { IfSome result (λ q. TellsNoneOf self.now.oracle state q piece.now) }
     {
         self.oracle.glance(state, piece)
+    }
+
+    /// Whether a text may end at a state of the table.
+    pub fn may_end(&self, state: u32) -> bool
+        ensures { result ≡ false → CannotEnd self.now.oracle state }
+    {
+        self.oracle.may_end(state)
     }
 
     /// Takes the end, and writes the rest. Tells whether the bytes have a parse.

@@ -50,11 +50,17 @@ impl<'p> Model for StageWorker<'p> {
         × (read_of s.team.oracle + length s.ahead.items < 2 ^ 64) };
 }
 
-// Gives a team bytes of which its oracle tells nothing, and then the end.
-fn finish_behind(team: &mut Team, bytes: &[u8], out: &mut Vec<u8>) -> Result<bool, Memory>
+// Gives a team bytes of which its oracle tells nothing, and then the end. The bytes lead to a
+// state: if no text ends there, the team needn't be given anything.
+fn finish_behind(
+    team: &mut Team,
+    state: u32,
+    bytes: &[u8],
+    out: &mut Vec<u8>,
+) -> Result<bool, Memory>
     requires ready { IsTeamReady team.old }
     requires settled { IsSettled team.old.actor }
-    requires quiet { (q : ℕ) × IsQuietAhead team.old.oracle bytes.now q }
+    requires quiet { IsQuietAhead team.old.oracle bytes.now state }
     requires room { read_of team.old.oracle + length bytes.now < 2 ^ 64 }
     ensures same { teller_in team.new ≡ teller_in team.old }
     ensures ends { IfOk result (λ parsed. (w text : List ℕ) → TeamFollows team.old w text
@@ -62,11 +68,14 @@ fn finish_behind(team: &mut Team, bytes: &[u8], out: &mut Vec<u8>) -> Result<boo
         out.new.items) }
     ensures read { read_of team.new.oracle ≤ read_of team.old.oracle + length bytes.now }
 {
+    if !team.may_end(state) {
+        return Ok(false);
+    }
     if team.finish_past(bytes, out)? {
         return Ok(true);
     }
     let approach = Approach {
-        held: 0,
+        held: bytes.len(),
         puts_off: false,
     };
     let heard = team.hear(approach, bytes, out)?;
@@ -96,10 +105,8 @@ impl<'p> StageWorker<'p> {
         };
         let heard = self.team.hear(approach, piece, out)?;
         if let Some(state) = heard.advance.ahead {
-            let mut ahead = Vec::new(self.alloc);
-            ahead.extend_from_slice(&piece[heard.advance.count..])?;
-            self.ahead = ahead;
             self.reached = state;
+            self.ahead.extend_from_slice(&piece[heard.advance.count..])?;
         }
         Ok(heard.stop)
     }
@@ -185,7 +192,7 @@ impl<'p> Worker for StageWorker<'p> {
         if text.is_empty() {
             return self.team.finish(out);
         }
-        finish_behind(&mut self.team, &text, out)
+        finish_behind(&mut self.team, self.reached, &text, out)
     }
 }
 

@@ -5,6 +5,9 @@ use Rattle.kex_stage.specs.declared.oracle.Oracle.TheVariants.{Table}
 use Rattle.kex_stage.proofs.Followers.{bare_place, goes_nowhere, none_held, place_bare, runs_go}
 use Rattle.kex_stage.proofs.follower.Follower.run.Goals as goal
 
+pub returns-then-held-piece-clause-goes : goal.returns-then-held-piece-clause-goes
+returns-then-held-piece-clause-goes c = goes_nowhere (Table c.args.self.now) c.args.actor.now c.args.out.now.items
+
 pub returns-then-holds_registers-clause-goes : goal.returns-then-holds_registers-clause-goes
 returns-then-holds_registers-clause-goes c = goes_nowhere (Table c.args.self.now) c.args.actor.now c.args.out.now.items
 

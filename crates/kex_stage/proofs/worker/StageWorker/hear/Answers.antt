@@ -15,7 +15,8 @@ returns-in_ok-extend_from_slice-clause-reads c =
     let rest = c.extend_from_slice.new.self.items in
     let x = c.args.out.now.items in
     let y = c.hear.new.out.items in
-    let left : rest ≡ drop h.advance.count piece = (c.in_ok-extend_from_slice.ensures {u = tt}).items ∙ ap (λ l. l ++ take (length piece - h.advance.count) (drop h.advance.count piece)) c.new-ahead.ensures.items ∙ take_rest piece h.advance.count in
+    let before : s.ahead.items ≡ [] = ap (λ (z : StageState). z.ahead) c.self.view_is ∙ c.requires.none in
+    let left : rest ≡ drop h.advance.count piece = (c.in_ok-extend_from_slice.ensures {u = tt}).items ∙ ap (λ l. l ++ take (length piece - h.advance.count) (drop h.advance.count piece)) before ∙ take_rest piece h.advance.count in
     subst (λ (z : StageState). (w text : List ℕ) → TeamFollows z.team w text → ReadMore (SaysOf (teller_in z.team)) (FollowsBehind (record { team = team; ahead = rest })) w text piece h.stop x y) c.self.view_is
     (λ w text f. heard_some (teller_in s.team) team w text piece rest h.advance.ahead h.stop h.advance.count c.in-Some.state x y e.same c.in-Some.is e.stop e.ahead left (e.reads w text f))
 
