@@ -23,8 +23,9 @@ use std::mem;
 /// Works over the plan that it borrows: bytes come in pieces, and what the plan's oracle tells of
 /// them goes out at once, as what the surviving paths agree on.
 ///
-/// Bytes of which the oracle tells nothing are put off: oracle and actor are given them once it
-/// tells something. They are kept as they are, however many come.
+/// Bytes of which the oracle tells nothing may be put off: oracle and actor are given them with the
+/// next byte of which it tells something, or that it refuses, and at the end. They are kept as they
+/// are, however many come.
 #[derive(Drop)]
 pub struct StageWorker<'p> {
     alloc: Global,
