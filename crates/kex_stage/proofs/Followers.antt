@@ -1,10 +1,11 @@
 -- An oracle and an actor that go on in several steps.
-use Rattle.std.proofs.Common.{◌≡◌, ℕ, zero, suc, ◌<◌, ◌≤◌, ◌+◌, ◌-◌, Bool, true, false, List, [], ◌∷◌, ◌++◌, Option, Some, None, length, take, drop, refl, sym, ap, ap₂, subst, ◌∙◌, append_assoc, append-nil, arith, length-append, take-append-drop}
+use Rattle.std.proofs.Common.{◌≡◌, ℕ, zero, suc, ◌<◌, ◌≤◌, ◌+◌, ◌-◌, Bool, true, false, List, [], ◌∷◌, ◌++◌, Some, length, take, drop, refl, sym, ap, ap₂, subst, ◌∙◌, append_assoc, append-nil, arith, length-append, take-append-drop}
 use Rattle.std.proofs.Math.Seq.{drop-drop}
-use Rattle.std.proofs.lemmas.List.{length-take-le, take_all, take_rest}
+use Rattle.std.proofs.lemmas.List.{length-take-le, take_rest}
+use Rattle.std.proofs.lemmas.Option.{slice_get_within}
 use Rattle.kex_code.specs.declared.symbol.Symbol.{Symbol}
 use Rattle.kex_machine.specs.Answers.{IsViableFor}
-use Rattle.kex_action.specs.Actors.{Position, HasPerformed, BeginsRun, TookAll}
+use Rattle.kex_action.specs.Actors.{Position, HasPerformed, BeginsRun, IsSettled, TookAll}
 use Rattle.kex_sst.specs.Tables.{Transducer}
 use Rattle.kex_sst.specs.Passes.{passes}
 use Rattle.kex_moves.specs.Along.{RunsOn, IsBareState, bare}
@@ -14,10 +15,11 @@ use Rattle.kex_stage.specs.declared.follower.Follower.{Follower}
 use Rattle.kex_stage.specs.declared.oracle.Oracle.{Oracle}
 use Rattle.kex_stage.specs.declared.oracle.Oracle.TheVariants.{Table}
 use Rattle.kex_stage.specs.Plans.{IsTableAs, SaysAs}
-use Rattle.kex_stage.specs.Ahead.{given_if}
 use Rattle.kex_stage.specs.Oracles.{Agrees}
 use Rattle.kex_stage.specs.Works.{Followed, StageWorks, StageGoes}
-use Rattle.kex_stage.specs.Strides.{HasGone}
+use Rattle.kex_stage.specs.Strides.{GoesOnBy, HasGone, HasStrode, LeavesNone, after_more, strode}
+use Rattle.kex_stage.specs.declared.strides.Stride.{Stride}
+use Rattle.kex_stage.specs.declared.strides.Stride.TheVariants.{On, Refused, PutOff}
 use Rattle.kex_stage.proofs.OracleAnswers as answers
 use Rattle.kex_stage.proofs.OracleAnswers.{says}
 use Rattle.kex_stage.proofs.ByTable.{still_live, table_agrees, table_told}
@@ -137,8 +139,8 @@ runs_go f new a b q count bs before after none no_registers moves table mb long 
 }
 
 -- a part is run, and a part after it is read
-pub strides : (refused : Bool) (o m n : Oracle) (a b c : Position) (piece next rest : List ℕ) (ran count : ℕ) (x y z : List ℕ) → piece ≡ take ran piece ++ (next ++ rest) → ran ≤ length piece → count ≤ length next → StageGoes o m a b (take ran piece) x y → HasGone refused m n b c next count y z → HasGone refused o n a c piece (ran + count) x z
-strides true o m n a b c piece next rest ran count x y z is le within first then =
+pub strides : (refused : Bool) (o m n : Oracle) (a b c : Position) (piece next rest : List ℕ) (ran count : ℕ) (x y z : List ℕ) → piece ≡ take ran piece ++ (next ++ rest) → ran ≤ length piece → StageGoes o m a b (take ran piece) x y → HasGone refused m n b c next count y z → HasGone refused o n a c piece (ran + count) x z
+strides true o m n a b c piece next rest ran count x y z is le first then =
     let lt : count < length next = then.0 in
     let long : length (take ran piece) ≡ ran = length-take-le ran piece le in
     let all : (take ran piece ++ next) ++ rest ≡ piece = append_assoc (take ran piece) next rest ∙ sym is in
@@ -146,23 +148,25 @@ strides true o m n a b c piece next rest ran count x y z is le within first then
       omega (arith, ap length is, length-append (take ran piece) (next ++ rest), length-append next rest, long, lt),
       subst (λ k. StageWorks o n a c piece (k + count) x z) long (subst (λ p. StageWorks o n a c p (length (take ran piece) + count) x z) all done),
     )
-strides false o m n a b c piece next rest ran count x y z is le within first then =
+strides false o m n a b c piece next rest ran count x y z is le first then =
     let long : length (take ran piece) ≡ ran = length-take-le ran piece le in
     let both : take ran piece ++ take count next ≡ take (ran + count) piece =
-    ap (λ u. take ran piece ++ u) (sym (take_front next rest count within))
+    ap (λ u. take ran piece ++ u) (sym (take_front next rest count then.0))
     ∙ sym (take_past (take ran piece) (next ++ rest) count)
     ∙ ap (λ i. take (i + count) (take ran piece ++ (next ++ rest))) long
-    ∙ ap (λ u. take (ran + count) u) (sym is) in
-    subst (λ p. StageGoes o n a c p x z) both (goes_more o m n a b c (take ran piece) (take count next) x y z first then)
+    ∙ ap (λ u. take (ran + count) u) (sym is) in (
+      omega (arith, ap length is, length-append (take ran piece) (next ++ rest), length-append next rest, long, then.0),
+      subst (λ p. StageGoes o n a c p x z) both (goes_more o m n a b c (take ran piece) (take count next) x y z first then.1),
+    )
 
 -- the front of a piece is read: all of it is good, or a byte of it is refused
-pub fronts : (refused : Bool) (o n : Oracle) (a b : Position) (piece : List ℕ) (taken count : ℕ) (x y : List ℕ) → taken ≤ length piece → HasGone refused o n a b (take taken piece) count x y → count ≤ taken → HasGone refused o n a b piece count x y
-fronts true o n a b piece taken count x y le h within =
+pub fronts : (refused : Bool) (o n : Oracle) (a b : Position) (piece : List ℕ) (taken count : ℕ) (x y : List ℕ) → taken ≤ length piece → HasGone refused o n a b (take taken piece) count x y → HasGone refused o n a b piece count x y
+fronts true o n a b piece taken count x y le h =
     let long = length-take-le taken piece le in
     (omega (arith, h.0, long, le), subst (λ p. StageWorks o n a b p count x y) (take-append-drop taken piece) (works_longer o n a b (take taken piece) (drop taken piece) count x y h.0 h.1))
-fronts false o n a b piece taken count x y le h within =
+fronts false o n a b piece taken count x y le h =
     let long = length-take-le taken piece le in
-    subst (λ p. StageGoes o n a b p x y) (sym (take_front (take taken piece) (drop taken piece) count (omega (arith, long, within))) ∙ ap (λ p. take count p) (take-append-drop taken piece)) h
+    (omega (arith, h.0, long, le), subst (λ p. StageGoes o n a b p x y) (sym (take_front (take taken piece) (drop taken piece) count h.0) ∙ ap (λ p. take count p) (take-append-drop taken piece)) h.1)
 
 -- the actor does what needs no symbol
 pub rests : (o : Oracle) (a b : Position) (x y : List ℕ) → TookAll a b [] x y → b.machine ≡ a.machine → StageGoes o o a b [] x y
@@ -177,11 +181,39 @@ rests o a b x y took mb = record {
       };
 }
 
--- of no bytes none is refused
-pub none_refused : (refused : Bool) (o n : Oracle) (a b : Position) (count : ℕ) (x y : List ℕ) → count ≤ 0 → HasGone refused o n a b [] count x y → StageGoes o n a b [] x y
-none_refused true o n a b count x y le h = absurd (omega (arith, h.0))
-none_refused false o n a b zero x y le h = h
-none_refused false o n a b (suc k) x y le h = absurd (omega arith)
+-- so it does after bytes that were gone along
+pub goes_rested : (o m : Oracle) (a b c : Position) (p x y z : List ℕ) → StageGoes o m a b p x y → StageGoes m m b c [] y z → StageGoes o m a c p x z
+goes_rested o m a b c p x y z first then = subst (λ l. StageGoes o m a c l x z) (append-nil p) (goes_more o m m a b c p [] x y z first then)
+
+-- of no bytes none is refused, and none put off
+pub none_gone : (s : Stride) (o n : Oracle) (a b : Position) (x y : List ℕ) → LeavesNone s → HasStrode s o n a b [] x y → StageGoes o n a b [] x y × (strode s ≡ 0)
+none_gone (On zero) o n a b x y none h = (h.1, refl)
+none_gone (On (suc k)) o n a b x y none h = absurd (omega (arith, h.0))
+none_gone (Refused k) o n a b x y none h = absurd (omega (arith, h.0))
+none_gone (PutOff k q) o n a b x y none h = absurd none
+
+-- a stride after a part that was run
+pub strides_on : (s : Stride) (o m n : Oracle) (a b c : Position) (piece next rest : List ℕ) (ran : ℕ) (x y z : List ℕ) → piece ≡ take ran piece ++ (next ++ rest) → ran ≤ length piece → LeavesNone s → StageGoes o m a b (take ran piece) x y → HasStrode s m n b c next y z → HasStrode (after_more ran s) o n a c piece x z
+strides_on (On k) o m n a b c piece next rest ran x y z is le none first then = strides false o m n a b c piece next rest ran k x y z is le first then
+strides_on (Refused k) o m n a b c piece next rest ran x y z is le none first then = strides true o m n a b c piece next rest ran k x y z is le first then
+strides_on (PutOff k q) o m n a b c piece next rest ran x y z is le none first then = absurd none
+
+pub strode_on : (s : Stride) (k : ℕ) → strode (after_more k s) ≡ k + strode s
+strode_on (On n) k = refl
+strode_on (Refused n) k = refl
+strode_on (PutOff n q) k = refl
+
+pub leaves_on : (s : Stride) (k : ℕ) → LeavesNone s → LeavesNone (after_more k s)
+leaves_on (On n) k h = tt
+leaves_on (Refused n) k h = tt
+leaves_on (PutOff n q) k h = absurd h
+
+pub on_by_more : (s : Stride) (k : ℕ) → (k ≡ 0 → GoesOnBy s) → GoesOnBy (after_more k s)
+on_by_more (On zero) zero h = h refl
+on_by_more (On (suc n)) zero h = omega arith
+on_by_more (On n) (suc k) h = omega arith
+on_by_more (Refused n) k h = tt
+on_by_more (PutOff n q) k h = tt
 
 -- what is left of a piece after a part of what was left
 pub rest_after : (piece : List ℕ) (at count : ℕ) → drop count (take (length piece - at) (drop at piece)) ≡ drop (at + count) piece
@@ -207,29 +239,25 @@ bare_place t q registers none h =
     let p = subst (λ rs. IsTablePlace t q rs) none h in
     record { row = p.row; at = p.at; count = p.count }
 
+pub place_within : (t : Transducer) (q : ℕ) (registers : List (List Symbol)) → IsTablePlace t q registers → q < length t.states
+place_within t q registers p = slice_get_within t.states q p.row p.at
+
 -- and the other way
 pub place_bare : (t : Transducer) (q : ℕ) → IsBareState t q → IsTablePlace t q []
 place_bare t q p = record { row = p.row; at = p.at; count = p.count }
 
-suc_less : (m n : ℕ) → m < n → suc m < suc n
-suc_less m n h = omega (arith, h)
+-- no symbol is given to an actor that is settled
+took_none : (b : Position) (y : List ℕ) → IsSettled b → TookAll b b [] y y
+took_none b y settled = record {
+  went = record {
+    more = [];
+    written = sym (append-nil y);
+    performed = λ given code out h. subst (λ l. HasPerformed b (given ++ []) (code ++ []) l) (sym (append-nil out)) (subst (λ l. HasPerformed b (given ++ []) l out) (sym (append-nil code)) (subst (λ l. HasPerformed b l code out) (sym (append-nil given)) h));
+  };
+  settled = settled;
+  good = λ g c out p i lt. absurd (omega (arith, lt));
+}
 
-none_less : (n : ℕ) → 0 < suc n
-none_less n = omega arith
-
--- how many strides there are at most: none after one that puts bytes off
-abbrev pub rounds_left : Option ℕ → ℕ → ℕ
-rounds_left None n = suc n
-rounds_left (Some q) n = 0
-
-pub rounds_fewer : (old new : Option ℕ) (n m : ℕ) → old ≡ None → (new ≡ None → m < n) → rounds_left new m < rounds_left old n
-rounds_fewer None None n m e f = suc_less m n (f refl)
-rounds_fewer None (Some q) n m e f = none_less n
-rounds_fewer (Some q) new n m e f = let bad : Some q ≡ None = e in cc
-
--- a piece of which all was gone along, or what comes before the bytes that are put off
-pub works_till : (o : Oracle) (f : Follower) (a b c : Position) (piece : List ℕ) (at : ℕ) (ahead : Option ℕ) (x y z : List ℕ) → at ≤ length piece → (ahead ≡ None → length piece ≤ at) → f.runner.pending ≡ [] → StageGoes o (Table f) a b (take at piece) x y → TookAll b c [] y z → c.machine ≡ b.machine → StageWorks o (Table f) a c (given_if ahead at piece) at x z
-works_till o f a b c piece at None x y z le all none goes took mc =
-    let same : length piece ≡ at = let more = all refl in omega (arith, more, le) in
-    subst (λ n. StageWorks o (Table f) a c piece n x z) same (settles o f a b c piece x y z none (subst (λ p. StageGoes o (Table f) a b p x y) (take_all at piece (all refl)) goes) took mc)
-works_till o f a b c piece at (Some q) x y z le all none goes took mc = subst (λ n. StageWorks o (Table f) a c (take at piece) n x z) (length-take-le at piece le) (settles o f a b c (take at piece) x y z none goes took mc)
+-- what is said of a front of a piece, where all was done that needs no symbol
+pub front_works : (o : Oracle) (f : Follower) (a b : Position) (piece : List ℕ) (count : ℕ) (x y : List ℕ) → count ≤ length piece → f.runner.pending ≡ [] → IsSettled b → StageGoes o (Table f) a b (take count piece) x y → StageWorks o (Table f) a b (take count piece) count x y
+front_works o f a b piece count x y le none settled goes = subst (λ n. StageWorks o (Table f) a b (take count piece) n x y) (length-take-le count piece le) (settles o f a b b (take count piece) x y y none goes (took_none b y settled) refl)

@@ -7,7 +7,8 @@ pub mod ActorOutputs
 pub mod Followers
 pub mod PerformedSteps
 pub mod FedStages
-pub mod QuietBytes
+pub mod WaitingBytes
 pub mod TableAnswers
 pub mod NoRefusals
 pub mod EndsPast
+pub mod PastTurns

@@ -3,7 +3,6 @@ use Rattle.std.proofs.Common.{◌≡◌, ℕ, true, false, Bool, List, [], ◌++
 use Rattle.std.specs.Prelude.{IsErrAnd}
 use Rattle.kex_code.specs.declared.symbol.Symbol.{Symbol}
 use Rattle.kex_machine.specs.Nodes.{Graph}
-use Rattle.kex_machine.specs.Answers.{IsViableFor}
 use Rattle.kex_action.specs.Actors.{Position, BeginsRun}
 use Rattle.kex_action.proofs.ActorRuns.{begins_front}
 use Rattle.kex_moves.specs.Speech.{PerformsSaid, RefusesCode}
@@ -16,10 +15,10 @@ use Rattle.kex_stage.specs.declared.plan.Telling.{Telling}
 use Rattle.kex_stage.specs.declared.speak.StageFault.{StageFault}
 use Rattle.kex_stage.specs.declared.speak.StageFault.TheVariants as faults
 use Rattle.kex_stage.specs.Oracles.{Agrees, Tells, TellsEnd, ShowsEnd}
-use Rattle.kex_stage.specs.Works.{Followed, StageGoes, RefusesNone}
-use Rattle.kex_stage.specs.Stages.{StageFollows}
+use Rattle.kex_stage.specs.Works.{StageGoes, RefusesNone}
+use Rattle.kex_stage.specs.Plans.{teller}
+use Rattle.kex_stage.specs.Stages.{ClosesAs, SaysOf, StageFollows}
 use Rattle.kex_stage.proofs.ByTable.{still_live, table_agrees}
-use Rattle.kex_stage.proofs.FedStages.{SaysStage, ClosesStage}
 
 -- a fault is a refusal or want of memory
 pub by_fault : (fault : StageFault) → (fault ≡ faults.Refused → ⊥) → fault ≡ faults.Memory
@@ -88,11 +87,11 @@ none_on o m a b p before after fault goes none = λ k g w text f v.
 
 -- what a worker answers of a piece
 abbrev pub Reads : Telling → Oracle → Oracle → Position → Position → List ℕ → List ℕ → List ℕ → Option ℕ → Type 0
-Reads k o new a b before after piece at = (w text : List ℕ) → StageFollows k o a w text → ReadMore (λ u i t. SaysStage k a.machine u i t) (λ u t. StageFollows k new b u t) w text piece at before after
+Reads k o new a b before after piece at = (w text : List ℕ) → StageFollows k o a w text → ReadMore (SaysOf (teller k a.machine)) (StageFollows k new b) w text piece at before after
 
 -- and of the end
 abbrev pub Ends : Telling → Oracle → Position → List ℕ → List ℕ → Bool → Type 0
-Ends k o a before after parsed = (w text : List ℕ) → StageFollows k o a w text → CameToEnd (λ u e t. ClosesStage k a.machine u e t) w text parsed before after
+Ends k o a before after parsed = (w text : List ℕ) → StageFollows k o a w text → CameToEnd (ClosesAs (teller k a.machine)) w text parsed before after
 
 -- a refusal comes of no text that is followed
 pub not_refused : (k : Telling) (o : Oracle) (a : Position) → RefusesNone o a faults.Refused → (w text : List ℕ) → StageFollows k o a w text → ⊥

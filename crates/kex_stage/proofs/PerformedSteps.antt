@@ -1,6 +1,5 @@
 -- A step: what the runner passes on along the front of a piece is performed.
-use Rattle.std.proofs.Common.{◌≡◌, ℕ, ◌<◌, ◌≤◌, true, false, nat_lt, List, [], length, take, sym, ap, subst, ◌∙◌, arith}
-use Rattle.std.proofs.lemmas.Bool.{lt-ltb, le-ltb}
+use Rattle.std.proofs.Common.{◌≡◌, ℕ, ◌<◌, ◌≤◌, true, false, List, [], length, take, sym, ap, subst, ◌∙◌, arith}
 use Rattle.std.proofs.lemmas.List.{length-take-le}
 use Rattle.kex_code.specs.declared.symbol.Symbol.{Symbol}
 use Rattle.kex_action.specs.Actors.{Position, TookAll}
@@ -24,16 +23,16 @@ module _ (o : Oracle) (f n : Follower) (a b : Position) (piece : List ℕ) (take
   tells = still_tells o f n (take taken piece) good [] said runner moves told
 
   -- all that was taken is good
-  pub steps_on : taken ≤ good → HasGone (nat_lt good taken) o (Table n) a b piece good before after
+  pub steps_on : taken ≤ good → HasGone false o (Table n) a b piece good before after
   steps_on all =
       let front : List ℕ = take taken piece in
       let whole : good ≡ length front = omega (arith, long, all, most) in
       let goes : StageGoes o (Table n) a b (take good front) before after = subst (λ p. StageGoes o (Table n) a b p before after) (sym (ap (λ z. take z front) whole ∙ take_all front)) (speaks o (Table n) a b front good said before after mb tells performs whole) in
-      subst (λ r. HasGone r o (Table n) a b piece good before after) (sym (le-ltb good taken all)) (fronts false o (Table n) a b piece taken good before after within goes most)
+      fronts false o (Table n) a b piece taken good before after within (omega (arith, whole), goes)
 
   -- the last byte was refused, and the actor does what needs no symbol
-  pub steps_out : (c : Position) (last : List ℕ) → good < taken → c.machine ≡ b.machine → TookAll b c [] after last → HasGone (nat_lt good taken) o (Table n) a c piece good before last
+  pub steps_out : (c : Position) (last : List ℕ) → good < taken → c.machine ≡ b.machine → TookAll b c [] after last → HasGone true o (Table n) a c piece good before last
   steps_out c last less mc took =
       let front : List ℕ = take taken piece in
       let lt : good < length front = omega (arith, long, less) in
-      subst (λ r. HasGone r o (Table n) a c piece good before last) (sym (lt-ltb good taken less)) (fronts true o (Table n) a c piece taken good before last within (lt, stops o (Table n) a b front good said before after mb tells performs c last lt mc took) most)
+      fronts true o (Table n) a c piece taken good before last within (lt, stops o (Table n) a b front good said before after mb tells performs c last lt mc took)

@@ -24,10 +24,13 @@ pub struct Follower<'p> {
     // What was passed on last.
     pub pieces: Vec<ByteWord>,
     pub table: &'p Table,
+    pub alloc: Global,
+    pub machine: &'p Trimmed,
     ghost same_words: { phrases.words ≡ runner.words },
     ghost same_machine: { phrases.machine ≡ moves.machine },
     ghost same_table: { moves.table ≡ runner.table },
     ghost own_table: { table.now ≡ runner.table },
+    ghost own_machine: { machine.now ≡ moves.machine },
 }
 
 impl<'p> Follower<'p> {
@@ -45,14 +48,16 @@ impl<'p> Follower<'p> {
             × (f.runner.read ≡ 0)) }
     {
         let runner = route.runner(alloc)?;
-        let moves = Moves::new(alloc, route.table(), machine)?;
         let phrases = Phrases::new(alloc, runner.words(), machine)?;
+        let moves = Moves::new(alloc, route.table(), machine)?;
         Ok(Follower {
             runner,
             moves,
             phrases,
             pieces: Vec::new(alloc),
             table: route.table(),
+            alloc,
+            machine,
         })
     }
 }

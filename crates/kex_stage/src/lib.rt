@@ -6,6 +6,7 @@
 #![tactic(auto)]
 
 pub mod advance;
+pub mod ahead;
 pub mod common;
 pub mod follower;
 pub mod laws;

@@ -1,18 +1,18 @@
 // The oracle of a stage: a frontier of its machine, or a runner of its table.
 
-ghost use Rattle.std.specs.Prelude.{◌≡◌, ◌+◌, ◌^◌, ◌<◌, ◌≤◌, [], false, None, IfErr, IfOk, IfSome};
-ghost use Rattle.std.specs.Prelude.{ℕ, OnOk, IsTrue, drop, length};
-ghost use Rattle.kex_action.specs.Actors.{IsSettled};
+ghost use Rattle.std.specs.Prelude.{◌≡◌, ◌↔◌, ◌+◌, ◌^◌, ◌<◌, ◌≤◌, [], false, IfErr, IfOk};
+ghost use Rattle.std.specs.Prelude.{ℕ, OnOk, IsTrue, length};
 ghost use Rattle.kex_machine.specs.Answers.{IsViableFor};
 ghost use Rattle.kex_machine.specs.Nodes.{Graph};
 ghost use Rattle.kex_stage.specs.declared.plan.Telling.{Telling};
-ghost use Rattle.kex_stage.specs.Ahead.{CannotEnd, FinishesPast, IsQuietAhead, IsStill};
-ghost use Rattle.kex_stage.specs.Ahead.{TellsNoneOf, told_front};
+ghost use Rattle.kex_stage.specs.Ahead.{CanWait, CannotEnd, FinishesPast, IsAdvance, IsStill};
+ghost use Rattle.kex_stage.specs.Ahead.{PutsNoneOff, SeesAhead, heard_part, good_part};
 ghost use Rattle.kex_stage.specs.Oracles.{Hears, IsOracleFor, IsReady, TellsEnd, learnt_of};
 ghost use Rattle.kex_stage.specs.Oracles.{read_of, usable_of};
 ghost use Rattle.kex_stage.specs.Works.{RefusesNone, StageFinishes, StageWorks};
 
 use crate::advance::{Advance, Approach};
+use crate::ahead::Outlook;
 use crate::follower::Follower;
 use crate::paths::Paths;
 use crate::plan::Plan;
@@ -89,9 +89,9 @@ impl<'p> Oracle<'p> {
         }
     }
 
-    /// Takes a piece, and writes what is said. Tells how many bytes are good: all, or those before
-    /// one with which no parse begins; or those before others that are put off. The oracle isn't
-    /// given these. What the code held is cleared.
+    /// Takes a piece, and writes what is said. Tells whether all bytes are good, or those before
+    /// one with which no parse begins; or those before others that are put off, since they can
+    /// wait. The oracle isn't given these. What the code held is cleared.
     pub fn go_along(
         &mut self,
         approach: Approach,
@@ -105,13 +105,12 @@ impl<'p> Oracle<'p> {
         requires learnt { learnt_of self.old actor.old.machine ≡ actor.old.machine }
         requires room { read_of self.old + length piece.now < 2 ^ 64 }
         ensures works { IfOk result (λ s. StageWorks self.old self.new actor.old actor.new
-            (told_front s piece.now) s.count out.old.items out.new.items) }
+            (heard_part s piece.now) (good_part s piece.now) out.old.items out.new.items) }
         ensures refuses { IfErr result (RefusesNone self.old actor.old) }
-        ensures ahead { IfOk result (λ s. IfSome s.ahead (λ q. IsSettled actor.new
-            × IsQuietAhead self.new (drop s.count piece.now) q)) }
-        ensures waits { IfOk result (λ s. approach.puts_off ≡ false → s.ahead ≡ None) }
-        ensures count { IfOk result (λ s. s.count ≤ length piece.now) }
-        ensures read { IfOk result (λ s. read_of self.new ≡ read_of self.old + s.count) }
+        ensures ahead { IfOk result (IsAdvance self.new actor.new piece.now) }
+        ensures waits { IfOk result (λ s. approach.puts_off ≡ false → PutsNoneOff s) }
+        ensures read { IfOk result (λ s.
+            read_of self.new ≡ read_of self.old + good_part s piece.now) }
         ensures within { read_of self.new ≤ read_of self.old + length piece.now }
         ensures machine { actor.new.machine ≡ actor.old.machine }
         ensures own { (k : Telling) (g : Graph) → IsOracleFor k g self.old
@@ -122,26 +121,28 @@ impl<'p> Oracle<'p> {
         match self {
             Oracle::Paths(paths) => {
                 let count = paths.go_on(actor, piece, code, out)?;
-                Ok(Advance { count, ahead: None })
+                if count < piece.len() {
+                    return Ok(Advance::Refused(count));
+                }
+                Ok(Advance::Whole)
             }
             Oracle::Table(follower) => follower.go_along(approach, actor, piece, out),
         }
     }
 
-    /// The state to which a piece leads from a state of the table, if there is one and it tells
-    /// nothing of the piece.
-    pub fn glance(&self, state: u32, piece: &[u8]) -> Option<u32>
-        ensures { IfSome result (λ q. TellsNoneOf self.now state q piece.now) }
+    /// What is seen of a piece from a state of the table on. Paths see nothing.
+    pub fn outlook(&self, state: u32, piece: &[u8]) -> Outlook
+        ensures { SeesAhead self.now state piece.now result }
     {
         match self {
-            Oracle::Paths(_) => None,
-            Oracle::Table(follower) => follower.glance(state, piece),
+            Oracle::Paths(_) => Outlook::Told,
+            Oracle::Table(follower) => follower.outlook(state, piece),
         }
     }
 
     /// Whether a text may end at a state of the table. Paths are asked at the end.
     pub fn may_end(&self, state: u32) -> bool
-        ensures { result ≡ false → CannotEnd self.now state }
+        ensures { result ≡ false ↔ CannotEnd self.now state }
     {
         match self {
             Oracle::Paths(_) => true,
@@ -190,8 +191,8 @@ impl<'p> Oracle<'p> {
         Ok(parsed)
     }
 
-    /// Takes the end after bytes of which it tells nothing and that it wasn't given, and writes
-    /// what they say. Nothing is done, and the answer is `false`, where there is no parse, or that
+    /// Takes the end after bytes that can wait and that it wasn't given, and writes what they say.
+    /// Nothing is done, and the answer is `false`, where there is no parse, or that
     /// can't be learnt.
     pub fn finish_past(
         &mut self,
@@ -201,7 +202,7 @@ impl<'p> Oracle<'p> {
     ) -> Result<bool, StageFault>
         requires actor { IsTrue actor.old.usable }
         requires learnt { learnt_of self.old actor.old.machine ≡ actor.old.machine }
-        requires quiet { (q : ℕ) × IsQuietAhead self.old bytes.now q }
+        requires waits { (q : ℕ) × CanWait self.old actor.old bytes.now q }
         ensures finishes { IfOk result (λ done. IsTrue done → FinishesPast self.old actor.old
             bytes.now out.old.items out.new.items) }
         ensures none { IfOk result (λ done. done ≡ false → IsStill self.old self.new

@@ -125,6 +125,21 @@ fn guide_of(
     }
 }
 
+// What `shorten` makes of a table: the shorter one, if there is one, and the guide of that by which
+// stages go.
+fn shortened(
+    alloc: Global,
+    table: &Option<Common<Table>>,
+) -> Result<(Option<Common<Table>>, Option<SharedGuide>), Memory>
+    ensures shorter { IfOk result (λ r. (k : Telling) (g : Graph) → IsTableFor k g table.now
+        → IfSome r.0 (λ t. IsTableAs k g t)) }
+    ensures guide { IfOk result (λ r. IsGuideIf (shortest r.0 table.now) r.1) }
+{
+    let shorter = shorter_of(alloc, table)?;
+    let guide = guide_of(alloc, &shorter, table)?;
+    Ok((shorter, guide))
+}
+
 impl Plan {
     /// The plan of a machine, with its table or without one, which tells what is agreed.
     pub fn new(machine: Trimmed, table: Option<Table>) -> Plan
@@ -215,14 +230,13 @@ impl Plan {
     pub fn shorten(self, alloc: Global) -> Result<Plan, Memory>
         ensures { IfOk result (λ p. p ≡ self) }
     {
+        let (shorter, guide) = shortened(alloc, &self.table)?;
         let Plan {
             machine,
             table,
             telling,
             ..
         } = self;
-        let shorter = shorter_of(alloc, &table)?;
-        let guide = guide_of(alloc, &shorter, &table)?;
         Ok(Plan {
             machine,
             table,

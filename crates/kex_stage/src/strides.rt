@@ -1,15 +1,14 @@
 // How a follower goes along a piece.
 
-ghost use Rattle.std.specs.Prelude.{◌≡◌, ◌+◌, ◌^◌, ◌<◌, ◌≤◌, [], false, None, IfErr, IfOk, IfSome};
-ghost use Rattle.std.specs.Prelude.{OnOk, IsTrue, length, take, drop};
-ghost use Rattle.kex_action.specs.Actors.{IsSettled};
-ghost use Rattle.kex_runner.specs.Quiet.{GoesQuietly};
+ghost use Rattle.std.specs.Prelude.{◌≡◌, ◌+◌, ◌^◌, ◌<◌, ◌≤◌, [], false, IfErr, IfOk, OnOk, IsTrue};
+ghost use Rattle.std.specs.Prelude.{length, take};
 ghost use Rattle.kex_script.specs.Pieces.{code_over};
-ghost use Rattle.kex_stage.specs.Ahead.{CannotEnd, FinishesPast, IsQuietAhead};
-ghost use Rattle.kex_stage.specs.Ahead.{told_front};
+ghost use Rattle.kex_stage.specs.Ahead.{FinishesPast, IsAdvance, PutsNoneOff, good_part};
+ghost use Rattle.kex_stage.specs.Ahead.{heard_part};
 ghost use Rattle.kex_stage.specs.Oracles.{Tells, TellsEnd};
 ghost use Rattle.kex_stage.specs.Works.{RefusesNone, StageGoes, StageWorks};
-ghost use Rattle.kex_stage.specs.Strides.{HasGone};
+ghost use Rattle.kex_stage.specs.Strides.{GoesOnBy, HasStrode, LeavesNone, after_more};
+ghost use Rattle.kex_stage.specs.Strides.{strode};
 
 use crate::advance::{Advance, Approach};
 use crate::follower::Follower;
@@ -23,13 +22,30 @@ use kex_runner::Ended;
 // How many bytes are read at most by the runner at once.
 const HELD: usize = 4096;
 
-// How many bytes are good, and whether the byte after them was refused. Else those after them may
-// be put off, all of them: then this is the state to which they lead.
+// How far a piece was gone along at once: how many bytes are good, and perhaps the one after them
+// was refused; or those after them are put off, since they can wait. These lead to a state.
 #[derive(Clone, Copy)]
-struct Stride {
-    count: usize,
-    refused: bool,
-    ahead: Option<u32>,
+enum Stride {
+    On(usize),
+    Refused(usize),
+    PutOff { count: usize, state: u32 },
+}
+
+impl Stride {
+    // The same, after more good bytes.
+    fn past(self, count: usize) -> Stride
+        requires { strode self + count < 2 ^ 64 }
+        ensures { result ≡ after_more count self }
+    {
+        match self {
+            Stride::On(more) => Stride::On(count + more),
+            Stride::Refused(more) => Stride::Refused(count + more),
+            Stride::PutOff { count: more, state } => Stride::PutOff {
+                count: count + more,
+                state,
+            },
+        }
+    }
 }
 
 // How many bytes were taken, and how many of them are good: all, or all but the last.
@@ -125,13 +141,12 @@ impl<'p> Follower<'p> {
         requires actor { IsTrue actor.old.usable }
         requires learnt { actor.old.machine ≡ self.old.moves.machine }
         requires room { self.old.runner.read + length piece.now < 2 ^ 64 }
-        ensures gone { IfOk result (λ s. HasGone s.refused (Oracle.Table self.old) (Oracle.Table
-            self.new) actor.old actor.new piece.now s.count out.old.items out.new.items) }
+        ensures gone { IfOk result (λ s. HasStrode s (Oracle.Table self.old) (Oracle.Table
+            self.new) actor.old actor.new piece.now out.old.items out.new.items) }
         ensures refuses { IfErr result (RefusesNone (Oracle.Table self.old) actor.old) }
-        ensures some { IfOk result (λ s. 0 < length piece.now → s.refused ≡ false → 0 < s.count) }
-        ensures count { IfOk result (λ s. s.count ≤ length piece.now) }
-        ensures none { IfOk result (λ s. s.ahead ≡ None) }
-        ensures read { IfOk result (λ s. self.new.runner.read ≡ self.old.runner.read + s.count) }
+        ensures some { IfOk result (λ s. 0 < length piece.now → GoesOnBy s) }
+        ensures none { IfOk result LeavesNone }
+        ensures read { IfOk result (λ s. self.new.runner.read ≡ self.old.runner.read + strode s) }
         ensures within { self.new.runner.read ≤ self.old.runner.read + length piece.now }
         ensures told { OnOk result (self.new.runner.pending ≡ []) }
         ensures usable { OnOk result (IsTrue self.new.runner.usable × IsTrue actor.new.usable) }
@@ -143,15 +158,11 @@ impl<'p> Follower<'p> {
         if !self.phrases.say(actor, &self.pieces, out)? {
             return Err(StageFault::Refused);
         }
-        let refused = heard.good < heard.taken;
-        if refused {
+        if heard.good < heard.taken {
             speak(actor, &[], out)?;
+            return Ok(Stride::Refused(heard.good));
         }
-        Ok(Stride {
-            count: heard.good,
-            refused,
-            ahead: None,
-        })
+        Ok(Stride::On(heard.good))
     }
 
     // Reads the front of a piece by what is learnt, where no registers are. The table is at a state
@@ -192,41 +203,8 @@ impl<'p> Follower<'p> {
         Ok(ran.count)
     }
 
-    // The state to which bytes lead of which the table tells nothing, if there are any, and no
-    // registers are held before them.
-    fn look_ahead(&self, piece: &[u8]) -> Option<u32>
-        requires told { self.now.runner.pending ≡ [] }
-        ensures { IfSome result (IsQuietAhead (Oracle.Table self.now) piece.now) }
-    {
-        if piece.is_empty() || self.runner.holds_registers() {
-            return None;
-        }
-        self.glance(self.runner.state(), piece)
-    }
-
-    /// The state to which a piece leads from a state, if the table tells nothing of it.
-    pub fn glance(&self, state: u32, piece: &[u8]) -> Option<u32>
-        ensures { IfSome result (λ q. GoesQuietly self.now.runner.table state q piece.now) }
-    {
-        let seen = self.runner.glance(state, piece);
-        if seen.count < piece.len() {
-            return None;
-        }
-        Some(seen.state)
-    }
-
-    /// Whether a text may end at a state of the table.
-    pub fn may_end(&self, state: u32) -> bool
-        ensures { result ≡ false → CannotEnd (Oracle.Table self.now) state }
-    {
-        match self.table.states().get(state as usize) {
-            None => false,
-            Some(row) => row.accepting().is_some(),
-        }
-    }
-
     // Reads some of a piece: by what is learnt, and then by the runner as far as it goes at once.
-    // The runner gets none of the rest if that may be put off.
+    // The runner gets none of the rest if that is put off.
     fn stride(
         &mut self,
         approach: Approach,
@@ -241,15 +219,12 @@ impl<'p> Follower<'p> {
         requires told { self.old.runner.pending ≡ [] }
         requires some { 0 < length piece.now }
         requires room { self.old.runner.read + length piece.now < 2 ^ 64 }
-        ensures gone { IfOk result (λ s. HasGone s.refused (Oracle.Table self.old) (Oracle.Table
-            self.new) actor.old actor.new piece.now s.count out.old.items out.new.items) }
+        ensures gone { IfOk result (λ s. HasStrode s (Oracle.Table self.old) (Oracle.Table
+            self.new) actor.old actor.new piece.now out.old.items out.new.items) }
         ensures refuses { IfErr result (RefusesNone (Oracle.Table self.old) actor.old) }
-        ensures some { IfOk result (λ s. s.refused ≡ false → s.ahead ≡ None → 0 < s.count) }
-        ensures count { IfOk result (λ s. s.count ≤ length piece.now) }
-        ensures ahead { IfOk result (λ s. IfSome s.ahead
-            (IsQuietAhead (Oracle.Table self.new) (drop s.count piece.now))) }
-        ensures waits { IfOk result (λ s. approach.puts_off ≡ false → s.ahead ≡ None) }
-        ensures read { IfOk result (λ s. self.new.runner.read ≡ self.old.runner.read + s.count) }
+        ensures some { IfOk result GoesOnBy }
+        ensures waits { IfOk result (λ s. approach.puts_off ≡ false → LeavesNone s) }
+        ensures read { IfOk result (λ s. self.new.runner.read ≡ self.old.runner.read + strode s) }
         ensures within { self.new.runner.read ≤ self.old.runner.read + length piece.now }
         ensures told { OnOk result (self.new.runner.pending ≡ []) }
         ensures usable { OnOk result (IsTrue self.new.runner.usable × IsTrue actor.new.usable) }
@@ -259,27 +234,16 @@ impl<'p> Follower<'p> {
     {
         let ran = self.run(approach.held, actor, piece, out)?;
         let rest = &piece[ran..];
-        if approach.puts_off {
-            let ahead = self.look_ahead(rest);
-            if ahead.is_some() {
-                return Ok(Stride {
-                    count: ran,
-                    refused: false,
-                    ahead,
-                });
-            }
+        if let Some(state) = self.look_ahead(approach.look(ran), actor, rest, out)? {
+            return Ok(Stride::PutOff { count: ran, state });
         }
         let next = &rest[..rest.len().min(HELD)];
         let stepped = self.step(actor, next, out)?;
-        Ok(Stride {
-            count: ran + stepped.count,
-            refused: stepped.refused,
-            ahead: None,
-        })
+        Ok(stepped.past(ran))
     }
 
-    /// Takes a piece, and writes what is said. Tells how many bytes are good. Bytes at the end of
-    /// which the table tells nothing are put off where they may be: the follower isn't given them.
+    /// Takes a piece, and writes what is said. Bytes at its end that can wait are put off where
+    /// they may be: the follower isn't given them.
     pub fn go_along(
         &mut self,
         approach: Approach,
@@ -293,14 +257,13 @@ impl<'p> Follower<'p> {
         requires learnt { actor.old.machine ≡ self.old.moves.machine }
         requires room { self.old.runner.read + length piece.now < 2 ^ 64 }
         ensures works { IfOk result (λ s. StageWorks (Oracle.Table self.old) (Oracle.Table
-            self.new) actor.old actor.new (told_front s piece.now) s.count out.old.items
-            out.new.items) }
+            self.new) actor.old actor.new (heard_part s piece.now) (good_part s piece.now)
+            out.old.items out.new.items) }
         ensures refuses { IfErr result (RefusesNone (Oracle.Table self.old) actor.old) }
-        ensures ahead { IfOk result (λ s. IfSome s.ahead (λ q. IsSettled actor.new
-            × IsQuietAhead (Oracle.Table self.new) (drop s.count piece.now) q)) }
-        ensures waits { IfOk result (λ s. approach.puts_off ≡ false → s.ahead ≡ None) }
-        ensures count { IfOk result (λ s. s.count ≤ length piece.now) }
-        ensures read { IfOk result (λ s. self.new.runner.read ≡ self.old.runner.read + s.count) }
+        ensures ahead { IfOk result (IsAdvance (Oracle.Table self.new) actor.new piece.now) }
+        ensures waits { IfOk result (λ s. approach.puts_off ≡ false → PutsNoneOff s) }
+        ensures read { IfOk result (λ s.
+            self.new.runner.read ≡ self.old.runner.read + good_part s piece.now) }
         ensures within { self.new.runner.read ≤ self.old.runner.read + length piece.now }
         ensures usable { OnOk result (IsTrue self.new.runner.usable × IsTrue actor.new.usable) }
         ensures open { self.new.runner.ended ≡ false }
@@ -310,20 +273,20 @@ impl<'p> Follower<'p> {
         speak(actor, &[], out)?;
         let _none = self.step(actor, &piece[..0], out)?;
         let mut at = 0;
-        let mut ahead = None;
-        'strides: while at < piece.len() && ahead.is_none() {
-            let stride = self.stride(approach.past(at), actor, &piece[at..], out)?;
-            at += stride.count;
-            if stride.refused {
-                return Ok(Advance {
-                    count: at,
-                    ahead: None,
-                });
+        'strides: while at < piece.len() {
+            match self.stride(approach.past(at), actor, &piece[at..], out)? {
+                Stride::On(count) => at += count,
+                Stride::Refused(count) => return Ok(Advance::Refused(at + count)),
+                Stride::PutOff { count, state } => {
+                    return Ok(Advance::PutOff {
+                        count: at + count,
+                        state,
+                    });
+                }
             }
-            ahead = stride.ahead;
         }
         speak(actor, &[], out)?;
-        Ok(Advance { count: at, ahead })
+        Ok(Advance::Whole)
     }
 
     /// Takes a piece, and writes what is said. Tells how many bytes are good.
@@ -351,8 +314,12 @@ impl<'p> Follower<'p> {
         let approach = Approach {
             held: 0,
             puts_off: false,
+            begins: true,
         };
-        let advance = self.go_along(approach, actor, piece, out)?;
-        Ok(advance.count)
+        match self.go_along(approach, actor, piece, out)? {
+            Advance::Whole => Ok(piece.len()),
+            Advance::Refused(count) => Ok(count),
+            Advance::PutOff { count, .. } => Ok(count),
+        }
     }
 }

@@ -1,17 +1,16 @@
 // An oracle and an actor that work together.
 
-ghost use Rattle.std.specs.Prelude.{◌≡◌, ◌+◌, ◌<◌, ◌≤◌, ◌^◌, [], ℕ, List, false, None, IfOk};
-ghost use Rattle.std.specs.Prelude.{◌++◌, true, IfSome, IsTrue, OnOk, drop, length};
-ghost use Rattle.kex_action.specs.Actors.{IsSettled};
-ghost use Rattle.kex_pipe.specs.Working.{CameToEnd, ReadMore};
-ghost use Rattle.kex_stage.specs.Ahead.{CannotEnd, IsQuietAhead, IsStill};
-ghost use Rattle.kex_stage.specs.Ahead.{TellsNoneOf, given_if};
+ghost use Rattle.std.specs.Prelude.{◌≡◌, ◌↔◌, ◌+◌, ◌<◌, ◌≤◌, ◌^◌, ◌++◌, [], ℕ, List, false, true};
+ghost use Rattle.std.specs.Prelude.{IfOk, IsTrue, OnOk, length};
+ghost use Rattle.kex_pipe.specs.Working.{CameToEnd};
+ghost use Rattle.kex_stage.specs.Ahead.{CanWait, CannotEnd, IsStill, SeesAhead};
 ghost use Rattle.kex_stage.specs.Oracles.{read_of};
 ghost use Rattle.kex_stage.specs.Plans.{teller_of};
-ghost use Rattle.kex_stage.specs.Stages.{ClosesAs, IsTeamReady, SaysOf, TeamFollows};
-ghost use Rattle.kex_stage.specs.Stages.{teller_in};
+ghost use Rattle.kex_stage.specs.Stages.{ClosesAs, IsTeamReady, TeamFollows, teller_in};
+ghost use Rattle.kex_stage.specs.Hearings.{HasHeard, RefusesNothing, KeepsNone, LeavesWaiting};
 
 use crate::advance::{Advance, Approach};
+use crate::ahead::Outlook;
 use crate::oracle::Oracle;
 use crate::plan::{Plan, Telling};
 use crate::speak::StageFault;
@@ -47,24 +46,14 @@ impl<'p> Model for Team<'p> {
         × IsOracleFor s.telling s.actor.machine s.oracle };
 }
 
-/// What a piece was answered by: how far it was told of, and which byte was refused, as a number in
-/// all bytes.
+/// How a piece was answered: all of it was good; or a byte was refused, which has this number in
+/// all bytes; or that number of bytes was good, and the others are put off, which lead to this
+/// state.
 #[derive(Clone, Copy, Debug, PartialEq, Eq)]
-pub struct Hearing {
-    pub advance: Advance,
-    pub stop: Option<u64>,
-}
-
-// The number of the byte after the good ones of a piece of `all` bytes, where it was refused.
-fn stop_at(advance: Advance, all: usize, good: u64) -> Option<u64>
-    ensures refused { IfSome result (λ at. (at ≡ good) × (advance.ahead ≡ None)
-        × (advance.count < all)) }
-    ensures none { result ≡ None → advance.ahead ≡ None → all ≤ advance.count }
-{
-    if advance.ahead.is_none() && advance.count < all {
-        return Some(good);
-    }
-    None
+pub enum Hearing {
+    Whole,
+    Refused(u64),
+    PutOff { count: usize, state: u32 },
 }
 
 impl<'p> Team<'p> {
@@ -74,8 +63,8 @@ impl<'p> Team<'p> {
         ensures follows { IfOk result (λ s. TeamFollows s [] []) }
         ensures ready { IfOk result (λ s. IsTeamReady s × (read_of s.oracle ≡ 0)) }
     {
-        let oracle = Oracle::new(alloc, plan)?;
         let actor = Actor::new(alloc, plan.machine())?;
+        let oracle = Oracle::new(alloc, plan)?;
         Ok(Team {
             oracle,
             actor,
@@ -84,8 +73,8 @@ impl<'p> Team<'p> {
         })
     }
 
-    /// Takes a piece, and writes what is said of it. Bytes at its end of which the oracle tells
-    /// nothing are put off where they may be: the team isn't given them.
+    /// Takes a piece, and writes what is said of it. Bytes at its end that can wait are put off
+    /// where they may be: the team isn't given them.
     pub fn hear(
         &mut self,
         approach: Approach,
@@ -95,50 +84,42 @@ impl<'p> Team<'p> {
         requires ready { IsTeamReady self.old }
         requires room { read_of self.old.oracle + length piece.now < 2 ^ 64 }
         ensures same { teller_in self.new ≡ teller_in self.old }
-        ensures reads { IfOk result (λ h. (w text : List ℕ) → TeamFollows self.old w text
-            → ReadMore (SaysOf (teller_in self.old)) (TeamFollows self.new) w text
-            (given_if h.advance.ahead h.advance.count piece.now) h.stop out.old.items
-            out.new.items) }
-        ensures ahead { IfOk result (λ h. IfSome h.advance.ahead (λ q. IsSettled self.new.actor
-            × IsQuietAhead self.new.oracle (drop h.advance.count piece.now) q)) }
-        ensures stop { IfOk result (λ h. IfSome h.advance.ahead (λ _. h.stop ≡ None)) }
-        ensures waits { IfOk result (λ h. approach.puts_off ≡ false → h.advance.ahead ≡ None) }
-        ensures count { IfOk result (λ h. h.advance.count ≤ length piece.now) }
-        ensures read { IfOk result (λ h. IfSome h.advance.ahead (λ _.
-            read_of self.new.oracle ≡ read_of self.old.oracle + h.advance.count)) }
+        ensures heard { IfOk result (λ h. (w text : List ℕ) → TeamFollows self.old w text
+            → HasHeard self.old self.new w text piece.now h out.old.items out.new.items) }
+        ensures left { IfOk result (LeavesWaiting self.old self.new piece.now) }
+        ensures waits { IfOk result (λ h. approach.puts_off ≡ false → KeepsNone h) }
         ensures within { read_of self.new.oracle ≤ read_of self.old.oracle + length piece.now }
-        ensures ready { IfOk result (λ h. h.stop ≡ None → IsTeamReady self.new) }
+        ensures ready { IfOk result (λ h. RefusesNothing h → IsTeamReady self.new) }
     {
         match self
             .oracle
             .go_along(approach, &mut self.actor, piece, &mut self.code, out)
         {
-            Ok(advance) => Ok(Hearing {
-                advance,
-                stop: stop_at(advance, piece.len(), self.oracle.read()),
-            }),
-            Err(StageFault::Refused) => Ok(Hearing {
-                advance: Advance {
-                    count: 0,
-                    ahead: None,
-                },
-                stop: Some(self.oracle.read()),
-            }),
+            Ok(Advance::Whole) => Ok(Hearing::Whole),
+            Ok(Advance::Refused(_)) => Ok(Hearing::Refused(self.oracle.read())),
+            Ok(Advance::PutOff { count, state }) => Ok(Hearing::PutOff { count, state }),
+            Err(StageFault::Refused) => Ok(Hearing::Refused(self.oracle.read())),
             Err(StageFault::Memory) => Err(Memory),
         }
     }
 
-    /// The state to which a piece leads from a state of the table, if there is one and it tells
-    /// nothing of the piece.
-    pub fn glance(&self, state: u32, piece: &[u8]) -> Option<u32>
-        ensures { IfSome result (λ q. TellsNoneOf self.now.oracle state q piece.now) }
+    /// How many good bytes the oracle has read.
+    pub fn read(&self) -> u64
+        ensures { result ≡ read_of self.now.oracle }
     {
-        self.oracle.glance(state, piece)
+        self.oracle.read()
+    }
+
+    /// What is seen of a piece from a state of the table on.
+    pub fn outlook(&self, state: u32, piece: &[u8]) -> Outlook
+        ensures { SeesAhead self.now.oracle state piece.now result }
+    {
+        self.oracle.outlook(state, piece)
     }
 
     /// Whether a text may end at a state of the table.
     pub fn may_end(&self, state: u32) -> bool
-        ensures { result ≡ false → CannotEnd self.now.oracle state }
+        ensures { result ≡ false ↔ CannotEnd self.now.oracle state }
     {
         self.oracle.may_end(state)
     }
@@ -159,12 +140,12 @@ impl<'p> Team<'p> {
         }
     }
 
-    /// Takes the end after bytes of which the oracle tells nothing and that the team wasn't given,
-    /// and writes what they say. Nothing is done, and the answer is `false`, where they are few,
+    /// Takes the end after bytes that can wait and that the team wasn't given, and writes what they
+    /// say. Nothing is done, and the answer is `false`, where they are few,
     /// where there is no parse, and where that can't be learnt.
     pub fn finish_past(&mut self, bytes: &[u8], out: &mut Vec<u8>) -> Result<bool, Memory>
         requires ready { IsTeamReady self.old }
-        requires quiet { (q : ℕ) × IsQuietAhead self.old.oracle bytes.now q }
+        requires waits { (q : ℕ) × CanWait self.old.oracle self.old.actor bytes.now q }
         ensures same { teller_in self.new ≡ teller_in self.old }
         ensures ends { IfOk result (λ done. IsTrue done → (w text : List ℕ)
             → TeamFollows self.old w text → CameToEnd (ClosesAs (teller_in self.old))

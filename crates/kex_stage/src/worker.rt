@@ -2,18 +2,19 @@
 
 ghost use Rattle.std.specs.Prelude.{◌≡◌, ◌&&◌, ◌+◌, ◌<◌, ◌≤◌, ◌^◌, ◌++◌, [], ℕ, List, not, true};
 ghost use Rattle.std.specs.Prelude.{false, None, IfOk, OnOk, IsTrue, length};
-ghost use Rattle.kex_action.specs.Actors.{IsSettled};
 ghost use Rattle.kex_pipe.specs.Working.{CameToEnd, ReadMore};
-ghost use Rattle.kex_stage.specs.Ahead.{IsQuietAhead};
+ghost use Rattle.kex_stage.specs.Ahead.{CanWait};
 ghost use Rattle.kex_stage.specs.Oracles.{oracle_ended, read_of, usable_of};
+ghost use Rattle.kex_stage.specs.Waitings.{HasWaited, IsWaitOver};
 ghost use Rattle.kex_stage.specs.Plans.{teller_of};
 ghost use Rattle.kex_stage.specs.StageLaws.{answering};
 ghost use Rattle.kex_stage.specs.Stages.{ClosesAs, FollowsBehind, Gives, IsTeamReady, SaysOf};
 ghost use Rattle.kex_stage.specs.Stages.{TeamFollows, teller_in};
 
 use crate::advance::Approach;
+use crate::ahead::Outlook;
 use crate::plan::Plan;
-use crate::team::Team;
+use crate::team::{Hearing, Team};
 use kex_code::memory::Memory;
 use kex_pipe::worker::{BeginsAnew, Worker};
 use std::alloc::Global;
@@ -23,9 +24,9 @@ use std::mem;
 /// Works over the plan that it borrows: bytes come in pieces, and what the plan's oracle tells of
 /// them goes out at once, as what the surviving paths agree on.
 ///
-/// Bytes of which the oracle tells nothing may be put off: oracle and actor are given them with the
-/// next byte of which it tells something, or that it refuses, and at the end. They are kept as they
-/// are, however many come.
+/// Bytes that can wait may be put off, since what the oracle would tell of them does nothing:
+/// oracle and actor are given them with the next byte that can't, unless that is refused, and at
+/// the end, if a text may end there. They are kept as they are, however many come.
 #[derive(Drop)]
 pub struct StageWorker<'p> {
     alloc: Global,
@@ -37,8 +38,7 @@ pub struct StageWorker<'p> {
 
 impl<'p> Model for StageWorker<'p> {
     ghost use Rattle.std.specs.Prelude.{◌<◌, ◌+◌, ◌^◌, length};
-    ghost use Rattle.kex_action.specs.Actors.{IsSettled};
-    ghost use Rattle.kex_stage.specs.Ahead.{IsQuietAhead};
+    ghost use Rattle.kex_stage.specs.Ahead.{CanWait};
     ghost use Rattle.kex_stage.specs.Oracles.{read_of};
     ghost use Rattle.kex_stage.specs.Stages.{StageState};
 
@@ -46,13 +46,22 @@ impl<'p> Model for StageWorker<'p> {
 
     ghost view = { λ s. record { team = s.team; ahead = s.ahead.items } };
 
-    ghost invariant = { λ s. 0 < length s.ahead.items → IsSettled s.team.actor
-        × IsQuietAhead s.team.oracle s.ahead.items s.reached
+    ghost invariant = { λ s. 0 < length s.ahead.items
+        → CanWait s.team.oracle s.team.actor s.ahead.items s.reached
         × (read_of s.team.oracle + length s.ahead.items < 2 ^ 64) };
 }
 
-// Gives a team bytes of which its oracle tells nothing, and then the end. The bytes lead to a
-// state: if no text ends there, the team needn't be given anything.
+// What comes of a piece after bytes that are put off: it is put off too; or a byte of it is
+// refused, which has this number in all bytes; or the oracle may tell something of it.
+#[derive(Clone, Copy)]
+enum Waiting {
+    On,
+    Refused(u64),
+    Over,
+}
+
+// Gives a team bytes that could wait, and then the end. The bytes lead to a state: if no text ends
+// there, the team needn't be given anything.
 fn finish_behind(
     team: &mut Team,
     state: u32,
@@ -60,8 +69,7 @@ fn finish_behind(
     out: &mut Vec<u8>,
 ) -> Result<bool, Memory>
     requires ready { IsTeamReady team.old }
-    requires settled { IsSettled team.old.actor }
-    requires quiet { IsQuietAhead team.old.oracle bytes.now state }
+    requires waits { CanWait team.old.oracle team.old.actor bytes.now state }
     requires room { read_of team.old.oracle + length bytes.now < 2 ^ 64 }
     ensures same { teller_in team.new ≡ teller_in team.old }
     ensures ends { IfOk result (λ parsed. (w text : List ℕ) → TeamFollows team.old w text
@@ -78,12 +86,12 @@ fn finish_behind(
     let approach = Approach {
         held: bytes.len(),
         puts_off: false,
+        begins: true,
     };
-    let heard = team.hear(approach, bytes, out)?;
-    if heard.stop.is_some() {
-        return Ok(false);
+    match team.hear(approach, bytes, out)? {
+        Hearing::Refused(_) => Ok(false),
+        _ => team.finish(out),
     }
-    team.finish(out)
 }
 
 impl<'p> StageWorker<'p> {
@@ -103,38 +111,46 @@ impl<'p> StageWorker<'p> {
         let approach = Approach {
             held,
             puts_off: true,
+            begins: true,
         };
-        let heard = self.team.hear(approach, piece, out)?;
-        if let Some(state) = heard.advance.ahead {
-            self.reached = state;
-            self.ahead.extend_from_slice(&piece[heard.advance.count..])?;
+        match self.team.hear(approach, piece, out)? {
+            Hearing::Whole => Ok(None),
+            Hearing::Refused(at) => Ok(Some(at)),
+            Hearing::PutOff { count, state } => {
+                self.reached = state;
+                self.ahead.extend_from_slice(&piece[count..])?;
+                Ok(None)
+            }
         }
-        Ok(heard.stop)
     }
 
-    // Puts a piece off, where the team wasn't given bytes before it and the oracle tells nothing of
-    // the piece either. Tells whether it is so.
-    fn put_off(&mut self, piece: &[u8]) -> Result<bool, Memory>
+    // What comes of a piece, where the team wasn't given bytes before it: it is put off too where
+    // the oracle tells nothing of it. Nothing is done where the oracle may tell something.
+    fn put_off(&mut self, piece: &[u8]) -> Result<Waiting, Memory>
         requires ready { IsTeamReady self.old.team }
         requires some { 0 < length self.old.ahead }
         requires room { read_of self.old.team.oracle + length self.old.ahead + length piece.now
             < 2 ^ 64 }
         ensures same { teller_in self.new.team ≡ teller_in self.old.team }
-        ensures reads { IfOk result (λ done. IsTrue done → (w text : List ℕ)
-            → FollowsBehind self.old w text
-            → SaysOf (teller_in self.old.team) (w ++ piece.now) None text
-            × FollowsBehind self.new (w ++ piece.now) text) }
-        ensures none { IfOk result (λ done. done ≡ false → self.new ≡ self.old) }
+        ensures waits { IfOk result (λ o. (w text : List ℕ) → FollowsBehind self.old w text
+            → HasWaited self.old self.new w text piece.now o) }
+        ensures none { IfOk result (λ o. IsWaitOver o → self.new ≡ self.old) }
         ensures counted { read_of self.new.team.oracle + length self.new.ahead
             ≤ read_of self.old.team.oracle + length self.old.ahead + length piece.now }
         ensures ready { IsTeamReady self.new.team }
     {
-        let Some(state) = self.team.glance(self.reached, piece) else {
-            return Ok(false);
-        };
-        self.ahead.extend_from_slice(piece)?;
-        self.reached = state;
-        Ok(true)
+        match self.team.outlook(self.reached, piece) {
+            Outlook::Quiet(state) => {
+                self.ahead.extend_from_slice(piece)?;
+                self.reached = state;
+                Ok(Waiting::On)
+            }
+            Outlook::Refused(count) => {
+                let before = self.team.read() + self.ahead.len() as u64;
+                Ok(Waiting::Refused(before + count as u64))
+            }
+            Outlook::Told => Ok(Waiting::Over),
+        }
     }
 }
 
@@ -180,8 +196,10 @@ impl<'p> Worker for StageWorker<'p> {
         if held == 0 {
             return self.hear(0, piece, out);
         }
-        if self.put_off(piece)? {
-            return Ok(None);
+        match self.put_off(piece)? {
+            Waiting::On => return Ok(None),
+            Waiting::Refused(at) => return Ok(Some(at)),
+            Waiting::Over => {}
         }
         let mut text = mem::replace(&mut self.ahead, Vec::new(self.alloc));
         text.extend_from_slice(piece)?;

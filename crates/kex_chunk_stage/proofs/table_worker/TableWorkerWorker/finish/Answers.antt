@@ -2,9 +2,10 @@ use Rattle.std.proofs.Common.{false, IfOk, List, ℕ, subst, sym}
 use Rattle.kex_pipe.specs.Working.{CameToEnd}
 use Rattle.kex_stage.specs.declared.oracle.Oracle.TheVariants.{Table}
 use Rattle.kex_stage.specs.declared.speak.StageFault.TheVariants as faults
-use Rattle.kex_stage.specs.Stages.{StageFollows}
+use Rattle.kex_stage.specs.Plans.{teller}
+use Rattle.kex_stage.specs.Stages.{ClosesAs, StageFollows}
 use Rattle.kex_stage.proofs.ActorOutputs.{finishes}
-use Rattle.kex_stage.proofs.FedStages.{ClosesStage, stage_ends}
+use Rattle.kex_stage.proofs.FedStages.{stage_ends}
 use Rattle.kex_stage.proofs.NoRefusals.{Ends, end_none, ends_none}
 use Rattle.kex_chunk_stage.specs.TableWorkers.{TableState}
 use Rattle.kex_chunk_stage.proofs.table_worker.TableWorkerWorker.finish.Goals as goal
@@ -32,4 +33,4 @@ returns-clause-ends c =
           subst (λ r. IfOk r (λ p. Ends k o s.actor x y p)) (sym w.result-is) (ends_none k o s.actor x y false none)
       | in-Err-Memory w ↦ subst (λ r. IfOk r (λ p. Ends k o s.actor x y p)) (sym w.result-is) tt
     ] in
-    subst (λ (z : TableState). IfOk c.match-speak.result (λ p. (w text : List ℕ) → StageFollows z.telling (Table z.follower) z.actor w text → CameToEnd (λ u b t. ClosesStage z.telling z.actor.machine u b t) w text p x y)) c.self.view_is answered
+    subst (λ (z : TableState). IfOk c.match-speak.result (λ p. (w text : List ℕ) → StageFollows z.telling (Table z.follower) z.actor w text → CameToEnd (ClosesAs (teller z.telling z.actor.machine)) w text p x y)) c.self.view_is answered

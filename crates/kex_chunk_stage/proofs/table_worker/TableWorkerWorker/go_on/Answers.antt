@@ -2,9 +2,10 @@ use Rattle.std.proofs.Common.{◌≡◌, nat_lt, length, sym, subst, ap, ◌∙�
 use Rattle.std.proofs.lemmas.Bool.{ltb-true, ltb-false}
 use Rattle.kex_pipe.specs.Working.{ReadMore}
 use Rattle.kex_stage.specs.declared.oracle.Oracle.TheVariants.{Table}
-use Rattle.kex_stage.specs.Stages.{StageFollows, refused_at}
+use Rattle.kex_stage.specs.Plans.{teller}
+use Rattle.kex_stage.specs.Stages.{SaysOf, StageFollows, refused_at}
 use Rattle.kex_stage.specs.Works.{RefusesNone}
-use Rattle.kex_stage.proofs.FedStages.{SaysStage, stage_reads}
+use Rattle.kex_stage.proofs.FedStages.{stage_reads}
 use Rattle.kex_stage.proofs.NoRefusals.{Reads, reads_none}
 use Rattle.kex_chunk_stage.specs.TableWorkers.{TableState}
 use Rattle.kex_chunk_stage.proofs.table_worker.TableWorkerWorker.go_on.Goals as goal
@@ -34,4 +35,4 @@ returns-clause-reads c =
           subst (λ r. IfOk r (λ at. Reads k o new s.actor b x y piece at)) (sym w.result-is) (reads_none k o new s.actor b x y piece _ none)
       | in-Err-Memory w ↦ subst (λ r. IfOk r (λ at. Reads k o new s.actor b x y piece at)) (sym w.result-is) tt
     ] in
-    subst (λ (z : TableState). IfOk c.match-go_on.result (λ at. (w text : List ℕ) → StageFollows z.telling (Table z.follower) z.actor w text → ReadMore (λ u i t. SaysStage z.telling z.actor.machine u i t) (λ u t. StageFollows k new b u t) w text piece at x y)) c.self.view_is answered
+    subst (λ (z : TableState). IfOk c.match-go_on.result (λ at. (w text : List ℕ) → StageFollows z.telling (Table z.follower) z.actor w text → ReadMore (SaysOf (teller z.telling z.actor.machine)) (StageFollows k new b) w text piece at x y)) c.self.view_is answered

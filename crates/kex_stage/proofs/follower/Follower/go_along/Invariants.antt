@@ -1,17 +1,13 @@
-use Rattle.std.proofs.Common.{◌≡◌, ℕ, suc, ◌+◌, ◌-◌, ◌≤◌, [], false, Option, Some, None, IfSome, length, take, drop}
+use Rattle.std.proofs.Common.{◌≡◌, ◌+◌, ◌-◌, ◌≤◌, [], false, length, take}
 use Rattle.std.specs.Prelude.{IsTrue}
 use Rattle.kex_stage.specs.declared.oracle.Oracle.TheVariants.{Table}
-use Rattle.kex_stage.specs.Ahead.{IsQuietAhead}
 use Rattle.kex_stage.specs.Works.{StageGoes}
-use Rattle.kex_stage.proofs.Followers.{rounds_left}
 use Rattle.kex_stage.proofs.follower.Follower.go_along.Given as goal
 
 abbrev pub invariant-strides : goal.invariant-strides
 invariant-strides l = record {
   at : l.at ≤ length l.piece;
   goes : StageGoes (Table l.fn.self) (Table l.self) l.fn.actor l.actor (take l.at l.piece) l.fn.out.items l.out.items;
-  ahead : IfSome l.ahead (IsQuietAhead (Table l.self) (drop l.at l.piece));
-  waits : l.approach.puts_off ≡ false → l.ahead ≡ None;
   told : l.self.runner.pending ≡ [];
   moves : l.self.moves ≡ l.fn.self.moves;
   machine : l.actor.machine ≡ l.fn.actor.machine;
@@ -21,4 +17,4 @@ invariant-strides l = record {
 }
 
 abbrev pub decreases-strides : goal.decreases-strides
-decreases-strides l = rounds_left l.ahead (length l.piece - l.at)
+decreases-strides l = length l.piece - l.at

@@ -9,23 +9,23 @@ use Rattle.kex_stage.proofs.PerformedSteps.{steps_on, steps_out}
 use Rattle.kex_stage.specs.Works.{RefusesNone}
 use Rattle.kex_stage.proofs.follower.Follower.step.Goals as goal
 
-pub returns-in_ok-speak-clause-gone : goal.returns-in_ok-speak-clause-gone
-returns-in_ok-speak-clause-gone c =
+pub returns-then-heard-clause-gone : goal.returns-then-heard-clause-gone
+returns-then-heard-clause-gone c =
     let h = c.in_ok-heard.heard in
     let said : List Symbol = code_over c.args.self.now.phrases.words c.hear.new.self.pieces.items in
     let performs : PerformsSaid c.args.actor.now c.say.new.actor said c.args.out.now.items c.say.new.out.items =
     subst (λ ps. PerformsSaid c.args.actor.now c.say.new.actor (code_over c.args.self.now.phrases.words ps) c.args.out.now.items c.say.new.out.items) c.deref.ensures.value
     (subst (λ p. PerformsSaid c.args.actor.now c.say.new.actor (code_over p.words c.deref.result.now) c.args.out.now.items c.say.new.out.items) c.in_ok-heard.ensures.moves.1 (c.in_ok-say.ensures.performs c.if-not-branch.false)) in
-    steps_out (Table c.args.self.now) c.hear.new.self _ c.args.actor.now c.say.new.actor c.args.piece.now h.taken h.good said c.args.out.now.items c.say.new.out.items refl refl c.in_ok-say.ensures.machine c.in_ok-heard.ensures.taken c.in_ok-heard.ensures.good c.in_ok-heard.ensures.tells performs c.speak.new.actor c.speak.new.out.items c.if-refused.true c.in_ok-speak.ensures.machine c.in_ok-speak.ensures.took
+    steps_out (Table c.args.self.now) c.hear.new.self _ c.args.actor.now c.say.new.actor c.args.piece.now h.taken h.good said c.args.out.now.items c.say.new.out.items refl refl c.in_ok-say.ensures.machine c.in_ok-heard.ensures.taken c.in_ok-heard.ensures.good c.in_ok-heard.ensures.tells performs c.speak.new.actor c.speak.new.out.items c.if-heard.true c.in_ok-speak.ensures.machine c.in_ok-speak.ensures.took
 
-pub returns-else-refused-clause-gone : goal.returns-else-refused-clause-gone
-returns-else-refused-clause-gone c =
+pub returns-clause-gone : goal.returns-clause-gone
+returns-clause-gone c =
     let h = c.in_ok-heard.heard in
     let said : List Symbol = code_over c.args.self.now.phrases.words c.hear.new.self.pieces.items in
     let performs : PerformsSaid c.args.actor.now c.say.new.actor said c.args.out.now.items c.say.new.out.items =
     subst (λ ps. PerformsSaid c.args.actor.now c.say.new.actor (code_over c.args.self.now.phrases.words ps) c.args.out.now.items c.say.new.out.items) c.deref.ensures.value
     (subst (λ p. PerformsSaid c.args.actor.now c.say.new.actor (code_over p.words c.deref.result.now) c.args.out.now.items c.say.new.out.items) c.in_ok-heard.ensures.moves.1 (c.in_ok-say.ensures.performs c.if-not-branch.false)) in
-    steps_on (Table c.args.self.now) c.hear.new.self _ c.args.actor.now c.say.new.actor c.args.piece.now h.taken h.good said c.args.out.now.items c.say.new.out.items refl refl c.in_ok-say.ensures.machine c.in_ok-heard.ensures.taken c.in_ok-heard.ensures.good c.in_ok-heard.ensures.tells performs c.if-refused.false
+    steps_on (Table c.args.self.now) c.hear.new.self _ c.args.actor.now c.say.new.actor c.args.piece.now h.taken h.good said c.args.out.now.items c.say.new.out.items refl refl c.in_ok-say.ensures.machine c.in_ok-heard.ensures.taken c.in_ok-heard.ensures.good c.in_ok-heard.ensures.tells performs c.if-heard.false
 
 pub returns-then-not-branch-clause-refuses : goal.returns-then-not-branch-clause-refuses
 returns-then-not-branch-clause-refuses c =

@@ -1,8 +1,8 @@
-use Rattle.std.proofs.Common.{◌≡◌, sym, subst, IfOk}
+use Rattle.std.proofs.Common.{sym, subst, IfOk}
 use Rattle.std.specs.Prelude.{IsTrue}
 use Rattle.kex_stage.specs.Ahead.{FinishesPast, IsStill}
 use Rattle.kex_stage.specs.declared.oracle.Oracle.TheVariants.{Table}
-use Rattle.kex_stage.proofs.QuietBytes.{if_ok}
+use Rattle.kex_stage.proofs.WaitingBytes.{if_ok}
 use Rattle.kex_stage.proofs.oracle.Oracle.finish_past.Goals as goal
 
 pub returns-in-Table-clause-finishes : goal.returns-in-Table-clause-finishes

@@ -1,12 +1,11 @@
 use Rattle.std.proofs.Common.{◌≡◌, ◌++◌, true, IfOk, List, ℕ, sym, subst, ◌∙◌}
-use Rattle.std.specs.Prelude.{IsTrue, Bool}
+use Rattle.std.specs.Prelude.{IsTrue}
 use Rattle.kex_pipe.specs.Working.{CameToEnd}
 use Rattle.kex_stage.specs.Oracles.{IsOracleFor, learnt_of}
 use Rattle.kex_stage.specs.Stages.{ClosesAs, TeamFollows, TeamState, teller_in}
 use Rattle.kex_stage.specs.Works.{RefusesNone}
 use Rattle.kex_stage.proofs.EndsPast.{comes_past}
 use Rattle.kex_stage.proofs.NoRefusals.{not_refused}
-use Rattle.kex_stage.proofs.QuietBytes.{if_ok}
 use Rattle.kex_stage.proofs.team.Team.finish_past.Goals as goal
 use Rattle.kex_stage.proofs.team.Team.finish_past.Goals.{in-Ok, in-Err-Refused, in-Err-Memory}
 

@@ -1,9 +1,9 @@
-use Rattle.std.proofs.Common.{◌≡◌, ◌++◌, [], List, ℕ, length, sym, ap, subst, ◌∙◌, arith, append-nil}
+use Rattle.std.proofs.Common.{◌≡◌, ◌++◌, [], List, ℕ, sym, ap, subst, ◌∙◌, arith, append-nil}
 use Rattle.std.specs.Prelude.{IfOk}
 use Rattle.std.proofs.lemmas.List.{nil_from_length}
 use Rattle.kex_pipe.specs.Working.{CameToEnd}
 use Rattle.kex_stage.specs.Stages.{ClosesAs, FollowsBehind, StageState, teller_in}
-use Rattle.kex_stage.proofs.QuietBytes.{if_ok}
+use Rattle.kex_stage.proofs.WaitingBytes.{if_ok}
 use Rattle.kex_stage.proofs.worker.StageWorkerWorker.finish.Goals as goal
 
 pub returns-then-is_empty-clause-ends : goal.returns-then-is_empty-clause-ends
