@@ -1,9 +1,12 @@
 // Checks the lines of one stage.
 
-ghost use Rattle.std.specs.Prelude.{◌≡◌, ℕ, ◌<◌, ◌≤◌, [], IfErr, IfOk, List, length};
+ghost use Rattle.std.specs.Prelude.{◌≡◌, ℕ, ◌<◌, ◌≤◌, [], ◌∷◌, IfErr, IfOk, List, length};
 ghost use Rattle.kex_byteset.specs.Classes.{class_count};
 ghost use Rattle.kex_machine.specs.Nodes.{HasClasses};
 ghost use Rattle.kex_sst.specs.Machines.{IsTableOf};
+ghost use Rattle.kex_model.specs.Labelled.{Shape};
+ghost use Rattle.kex_paths.specs.Nexts.{IsOfShape};
+ghost use Rattle.kex_tabfile.specs.Checking.{AreTargets};
 ghost use Rattle.kex_tabfile.specs.Checking.{BeginsWith, BreaksReading, BreaksStage, Checks};
 ghost use Rattle.kex_tabfile.specs.Checking.{EachHasEnds, ReadsStage, ChecksAt};
 ghost use Rattle.kex_tabfile.specs.Lines.{stage_line};
@@ -18,6 +21,7 @@ use crate::rows::StageChecker;
 use crate::spell::{push_stage_front, push_stage_rest};
 use crate::targets::Targets;
 use kex_byteset::Partition;
+use kex_code::memory::Memory;
 use kex_machine::Trimmed;
 use kex_paths::tree::PathTree;
 use kex_paths::workspace::Workspace;
@@ -31,11 +35,11 @@ pub(crate) const MOST_STATES: u32 = 1_048_576;
 
 // Reads the own line of the stage with this number, and says how many states there are.
 fn take_stage_line(
+    alloc: Global,
     machine: &Trimmed,
     stage: u32,
     partition: &Partition,
     reader: &mut TableReader,
-    line: &mut Vec<u8>,
 ) -> Result<u32, TableRefusal>
     ensures right { IfOk result (λ n. (0 < n) × (n ≤ most_table_states)
         × ReadsBytes reader.old
@@ -44,16 +48,16 @@ fn take_stage_line(
         → class_count classes ≡ class_count partition.now
         → BreaksReading machine.now numbers classes reader.old (at_stage stage) e) }
 {
-    line.clear();
-    push_stage_front(stage, partition.classes(), line)?;
+    let mut line = Vec::new(alloc);
+    push_stage_front(stage, partition.classes(), &mut line)?;
     let Some(states) = reader.number(line.len(), MOST_STATES) else {
         return Err(reader.bad_line());
     };
     if states == 0 {
         return Err(reader.bad_line());
     }
-    push_stage_rest(states, line)?;
-    reader.take(line)?;
+    push_stage_rest(states, &mut line)?;
+    reader.take(&line)?;
     Ok(states)
 }
 
@@ -91,6 +95,66 @@ fn take_states<'m>(
     Ok(rows)
 }
 
+// What the lines of a stage's states are checked by, where the tree of the first is known.
+fn first_checker<'m>(
+    alloc: Global,
+    machine: &'m Trimmed,
+    partition: &'m Partition,
+    numbers: Vec<u32>,
+    states: u32,
+    tree: PathTree<'m>,
+) -> Result<StageChecker<'m>, Memory>
+    requires { tree.machine ≡ machine.now }
+    ensures machine { IfOk result (λ k. k.machine.now ≡ machine.now) }
+    ensures partition { IfOk result (λ k. k.partition.now ≡ partition.now) }
+    ensures states { IfOk result (λ k. k.states ≡ states) }
+    ensures numbers { IfOk result (λ k. k.numbers ≡ numbers) }
+    ensures targets { IfOk result (λ k. (s : Shape ℕ) → IsOfShape tree.entry s
+        → AreTargets machine.now k.targets (record { state = 0; tree = s } ∷ [])) }
+{
+    let mut targets = Targets::new(alloc);
+    targets.meet(0, tree)?;
+    Ok(StageChecker {
+        alloc,
+        machine,
+        partition,
+        numbers,
+        states,
+        targets,
+        updates: Updates::new(alloc),
+        line: Vec::new(alloc),
+    })
+}
+
+// The lines of all states, by a workspace of their own.
+fn take_all(
+    checker: StageChecker,
+    reader: &mut TableReader,
+    initial: &Update,
+) -> Result<Vec<State>, TableRefusal>
+    requires classes { HasClasses checker.machine.now.nodes checker.partition.now }
+    requires places { length checker.numbers.items
+        ≡ length checker.machine.now.nodes }
+    requires initial { BeginsWith checker.machine.now initial.now }
+    requires begun { (told : Told) × (told.rows ≡ []) × ChecksAt checker.machine.now
+        checker.targets checker.states 0 told }
+    ensures right { IfOk result (λ rows. (told : Told) → told.rows ≡ []
+        → ChecksAt checker.entry.machine.now checker.entry.targets checker.entry.states 0 told
+        → (end : Told) × (end.rows ≡ goes_of rows.items)
+        × (end.states ≡ checker.entry.states) × (length rows.items ≡ checker.entry.states)
+        × EachHasEnds checker.entry.machine.now end.targets rows.items
+        × Checks checker.entry.machine.now checker.entry.numbers.items
+        checker.entry.partition.now reader.old (at_state told) (at_state end) reader.new) }
+    ensures bad { IfErr result (λ e. (told : Told) → told.rows ≡ []
+        → ChecksAt checker.entry.machine.now checker.entry.targets checker.entry.states 0 told
+        → BreaksReading checker.entry.machine.now checker.entry.numbers.items
+        checker.entry.partition.now reader.old (at_state told) e) }
+{
+    let mut checker = checker;
+    let mut workspace = Workspace::new(checker.alloc, checker.machine)?;
+    take_states(&mut checker, reader, &mut workspace, initial)
+}
+
 /// The table of the machine of the stage with this number, by the lines that come next.
 pub(crate) fn take_stage(
     alloc: Global,
@@ -105,23 +169,10 @@ pub(crate) fn take_stage(
 {
     let _nodes = machine.nodes();
     let partition = machine.partition();
-    let mut line = Vec::new(alloc);
     let numbers = number_places(alloc, machine)?;
-    let states = take_stage_line(machine, stage, partition, reader, &mut line)?;
-    let mut workspace = Workspace::new(alloc, machine)?;
+    let states = take_stage_line(alloc, machine, stage, partition, reader)?;
     let (tree, initial) = PathTree::start(alloc, machine)?;
-    let mut targets = Targets::new(alloc);
-    targets.meet(0, tree)?;
-    let mut checker = StageChecker {
-        alloc,
-        machine,
-        partition,
-        numbers,
-        states,
-        targets,
-        updates: Updates::new(alloc),
-        line,
-    };
-    let rows = take_states(&mut checker, reader, &mut workspace, &initial)?;
+    let checker = first_checker(alloc, machine, partition, numbers, states, tree)?;
+    let rows = take_all(checker, reader, &initial)?;
     Ok(Table::new(partition.copy(), initial, rows))
 }

@@ -37,10 +37,10 @@ impl<'m> StateTrees<'m> {
             → AreFirstTrees shapes t.trees.items) }
     {
         let numbers = number_places(alloc, machine)?;
-        let workspace = Workspace::new(alloc, machine)?;
         let (tree, _update) = PathTree::start(alloc, machine)?;
         let mut trees = Vec::new(alloc);
         trees.push(tree)?;
+        let workspace = Workspace::new(alloc, machine)?;
         Ok(StateTrees {
             numbers,
             trees,

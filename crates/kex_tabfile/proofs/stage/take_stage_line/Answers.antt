@@ -18,7 +18,7 @@ pub returns-in_default-clause-bad : goal.returns-in_default-clause-bad
 returns-in_default-clause-bad c = λ numbers classes same.
     let a = c.args.reader.now in
     let g = c.args.machine.now in
-    let front : c.push_stage_front.new.line.items ≡ stage_front c.args.stage (class_count classes) = c.in_ok-push_stage_front.ensures ∙ ap (λ z. z ++ stage_front c.args.stage c.classes.result) c.clear.ensures.items ∙ ap (stage_front c.args.stage) (c.classes.ensures.count ∙ sym same) in
+    let front : c.push_stage_front.new.line.items ≡ stage_front c.args.stage (class_count classes) = c.in_ok-push_stage_front.ensures ∙ ap (λ z. z ++ stage_front c.args.stage c.classes.result) c.new-line.ensures.items ∙ ap (stage_front c.args.stage) (c.classes.ensures.count ∙ sym same) in
     let long : length (stage_front c.args.stage (class_count classes)) ≡ c.len.result = omega (arith, c.len.ensures, c.push_stage_front.new.line.ok.0, ap length front) in
     subst (λ z. BreaksReading g numbers classes a (at_stage c.args.stage) z) (sym c.bad_line.ensures)
     (breaks_stage g numbers classes c.args.stage a (λ n some few b. clash n None refl (count_found a.rest c.args.stage (class_count classes) n most_table_states None (λ front n next more skip le e none. c.in_default.ensures.number front n next more (skip ∙ long) le e none) few b)) (line_behind a.before) refl)
@@ -27,7 +27,7 @@ pub returns-then-states-eq0-clause-bad : goal.returns-then-states-eq0-clause-bad
 returns-then-states-eq0-clause-bad c = λ numbers classes same.
     let a = c.args.reader.now in
     let g = c.args.machine.now in
-    let front : c.push_stage_front.new.line.items ≡ stage_front c.args.stage (class_count classes) = c.in_ok-push_stage_front.ensures ∙ ap (λ z. z ++ stage_front c.args.stage c.classes.result) c.clear.ensures.items ∙ ap (stage_front c.args.stage) (c.classes.ensures.count ∙ sym same) in
+    let front : c.push_stage_front.new.line.items ≡ stage_front c.args.stage (class_count classes) = c.in_ok-push_stage_front.ensures ∙ ap (λ z. z ++ stage_front c.args.stage c.classes.result) c.new-line.ensures.items ∙ ap (stage_front c.args.stage) (c.classes.ensures.count ∙ sym same) in
     let long : length (stage_front c.args.stage (class_count classes)) ≡ c.len.result = omega (arith, c.len.ensures, c.push_stage_front.new.line.ok.0, ap length front) in
     subst (λ z. BreaksReading g numbers classes a (at_stage c.args.stage) z) (sym c.bad_line-then-states-eq0.ensures)
     (breaks_stage g numbers classes c.args.stage a (λ n some few b. let e = some_same c.in-Some.states n (count_found a.rest c.args.stage (class_count classes) n most_table_states (Some c.in-Some.states) (λ front n next more skip le e none. c.in-Some.ensures.number front n next more (skip ∙ long) le e none) few b) in absurd (omega (arith, e, some, c.if-states-eq0.true))) (line_behind a.before) refl)
@@ -38,7 +38,7 @@ returns-in_err-take-clause-bad c =
     let g = c.args.machine.now in
     let bad = c.in_err-take.ensures.bad in
     if_err c.from_residual-in_err-take.result c.in_err-take.field-0.0 _ c.from_residual-in_err-take.ensures.1 (λ numbers classes same.
-    let front : c.push_stage_front.new.line.items ≡ stage_front c.args.stage (class_count classes) = c.in_ok-push_stage_front.ensures ∙ ap (λ z. z ++ stage_front c.args.stage c.classes.result) c.clear.ensures.items ∙ ap (stage_front c.args.stage) (c.classes.ensures.count ∙ sym same) in
+    let front : c.push_stage_front.new.line.items ≡ stage_front c.args.stage (class_count classes) = c.in_ok-push_stage_front.ensures ∙ ap (λ z. z ++ stage_front c.args.stage c.classes.result) c.new-line.ensures.items ∙ ap (stage_front c.args.stage) (c.classes.ensures.count ∙ sym same) in
     let long : length (stage_front c.args.stage (class_count classes)) ≡ c.len.result = omega (arith, c.len.ensures, c.push_stage_front.new.line.ok.0, ap length front) in
     let line : c.deref.result.now ≡ stage_line c.args.stage (class_count classes) c.in-Some.states = c.deref.ensures.value ∙ c.in_ok-push_stage_rest.ensures ∙ ap (λ z. z ++ (decimal c.in-Some.states ++ codes "\n")) front in
     subst (λ z. BreaksReading g numbers classes a (at_stage c.args.stage) z) (sym bad.0)
