@@ -317,8 +317,9 @@ impl<'t> Runner<'t> {
         self.place.registers.len() > 0
     }
 
-    /// How far a piece is quiet from a state on: the table passes nothing on, and holds something
-    /// after each byte. The runner stays as it is.
+    /// How far a piece is quiet from a state on: the table passes nothing on, whatever its
+    /// registers hold. It ends before a byte that leads to a state without registers. The runner
+    /// stays as it is.
     pub fn glance(&self, state: u32, piece: &[u8]) -> Glance
         ensures count { result.count ≤ length piece.now }
         ensures quiet { GoesQuietly self.now.table state result.state
