@@ -19,12 +19,14 @@ run p # main := ("1 " /[a-z]*!/ | "0 " /[a-z]*;/)* # %ab%3000%; # 0 %ab%3000%; #
 run p # main := ("1 " /[a-z]*!/ | "0 " /[a-z]*;/)* # %ab%3000%!cd; # 1 %ab%3000%!0 cd; # 0
 run p # main := ("1 " /[a-z]*!/ | "0 " /[a-z]*;/)* # cd;%ab%3000%! # 0 cd;1 %ab%3000%! # 0
 run p # main := ("1 " /[a-z]*!/ | "0 " /[a-z]*;/)* # %ab;cd!%700% # %0 ab;1 cd!%700% # 0
+run p # main := ("<" ("1 " /[a-z]*!/ | "0 " /[a-z]*;/) ">")* # cd;%ab%3000%!ef; # <0 cd;><1 %ab%3000%!><0 ef;> # 0
 run p # main := (~/[a-z]*/ /;/ | /[a-z]*,/)* # %ab%3000%; # ; # 0
 run p # main := (~/[a-z]*/ /;/ | /[a-z]*,/)* # %ab%3000%,cd; # %ab%3000%,; # 0
 run p # main := (r@/[a-z]*/ ~/=/ "[" !r "]" | /[a-z]*;/)* # %ab%3000%=cd; # [%ab%3000%]cd; # 0
 run p # main := (/[0-9]{1,3}/ ("," /[0-9]{3}/)* /;/)* # 123%123%1999%; # 123%,123%1999%; # 0
 run p # main := "1" ("<" /a/ ">")* /b/ | "2" ("<" /a/ ">")* /c/ # %a%3000%c # 2%<a>%3000%c # 0
 run p # main := /a*/ ~/a{10}/ # %a%3000% # %a%2990% # 0
+run p # main := /a*/ ~/a{3}/ /;/ ("1 " /[A-Z]*!/ | "0 " /[A-Z]*;/) # aaaaaaaa;%AB%3000%! # aaaaa;1 %AB%3000%! # 0
 "#;
 
 #[test]
@@ -64,6 +66,8 @@ run p # main := ("1 " /[a-z]*!/ | "0 " /[a-z]*;/)* # %a%200% #  # 1 rejected: st
 run p # main := ("1 " /[a-z]*!/ | "0 " /[a-z]*;/)* # %ab%3000% #  # 1 rejected: stage 1 at byte 6000 (end)
 run p # main := ("1 " /[a-z]*!/ | "0 " /[a-z]*;/)* # cd;%ab%3000% # 0 cd; # 1 rejected: stage 1 at byte 6003 (end)
 run p # main := ("1 " /[a-z]*!/ | "0 " /[a-z]*;/)* # %ab%3000%Xcd; #  # 1 rejected: stage 1 at byte 6000
+run p # main := ("<" ("1 " /[a-z]*!/ | "0 " /[a-z]*;/))* # cd;%ab%3000%X # <0 cd;< # 1 rejected: stage 1 at byte 6003
+run p # main := ([r <- "x"] (!r "1 " /[a-z]*!/ | !r "0 " /[a-z]*;/))* # cd;%ab%3000% # x0 cd; # 1 rejected: stage 1 at byte 6003 (end)
 run p # main := ("1 " /[a-z]*!/ | "0 " /[a-z]*;/)* # cd;%ab%3000%X # 0 cd; # 1 rejected: stage 1 at byte 6003
 run p --max-input 5000 # main := ("1 " /[a-z]*!/ | "0 " /[a-z]*;/)* # %ab%3000%; #  # 8 too long: stage 1 at byte 5000
 run p # main := ("1 " /[a-z]*!/ | "0 " /[a-z]*;/)* # %ab%3000%; #  # 4 read fault # given=4000 read=2
