@@ -12,8 +12,8 @@ use Rattle.kex_runner.specs.Places.{StandsAt}
 use Rattle.kex_runner.specs.Running.{Running, HasPassed, IsRunOf}
 use Rattle.kex_pipe.specs.Working.{SaysViable}
 use Rattle.kex_stage.specs.declared.oracle.Oracle.TheVariants.{Table}
-use Rattle.kex_stage.specs.declared.plan.Telling.{Telling}
-use Rattle.kex_stage.specs.Plans.{IsTableAs, SaysAs}
+use Rattle.kex_plan.specs.declared.plan.Telling.{Telling}
+use Rattle.kex_plan.specs.Plans.{IsTableAs, SaysAs}
 use Rattle.kex_stage.specs.StageLaws.{told_orderly}
 use Rattle.kex_stage.specs.Stages.{StageFollows}
 use Rattle.kex_chunk_stage.specs.TableWorkers.{TableState, table_plan_of}

@@ -4,8 +4,8 @@ use Rattle.kex_sst.specs.Tables.{Transducer}
 use Rattle.kex_action.specs.Actors.{Position}
 use Rattle.kex_pipe.specs.Working.{BoundedPlan}
 use Rattle.kex_stage.specs.declared.follower.Follower.{Follower}
-use Rattle.kex_stage.specs.declared.plan.Telling.{Telling}
-use Rattle.kex_stage.specs.Plans.{Teller, teller}
+use Rattle.kex_plan.specs.declared.plan.Telling.{Telling}
+use Rattle.kex_plan.specs.Plans.{Teller, teller}
 use Rattle.kex_stage.specs.Stages.{StagePlan}
 
 -- a machine, a table of it, and what that passes on

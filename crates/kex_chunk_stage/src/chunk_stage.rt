@@ -3,7 +3,7 @@
 ghost use Rattle.std.specs.Prelude.{◌≡◌, ◌≤◌, Option, None, IfOk, IsTrue, All, vec_len};
 ghost use Rattle.std.proofs.Common.{◌∙◌};
 ghost use Rattle.kex_pipe.specs.Histories.{StageFed};
-ghost use Rattle.kex_stage.specs.Plans.{teller_of};
+ghost use Rattle.kex_plan.specs.Plans.{teller_of};
 ghost use Rattle.kex_stage.specs.StageLaws.{answering};
 ghost use Rattle.kex_stage.specs.Stages.{Gives};
 ghost use Rattle.kex_chunk_stage.specs.TableWorkers.{stage_plan, table_plan_of};
@@ -15,7 +15,7 @@ use kex_desks::chunk_worker::{ChunkWorker, Crew};
 use kex_pipe::bounded::Bounded;
 use kex_pipe::parted::Parted;
 use kex_pipe::turn::{Fate, Stop, Turn};
-use kex_stage::plan::Plan;
+use kex_plan::plan::Plan;
 use std::alloc::Global;
 
 /// A stage that hands out desks, which work on parts of what it reads next. It answers as a `Stage`

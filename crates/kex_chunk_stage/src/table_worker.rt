@@ -1,10 +1,10 @@
 // A worker that goes by a table.
 
-ghost use Rattle.std.specs.Prelude.{◌≡◌, ◌&&◌, not, true, IfOk, OnOk, IsTrue, None, MatchOption};
+ghost use Rattle.std.specs.Prelude.{◌≡◌, ◌&&◌, not, true, IfOk, None, MatchOption};
 ghost use Rattle.kex_machine.specs.Answers.{HasRun, MeansByRun, IsViableFor};
 ghost use Rattle.kex_pipe.specs.Working.{ClosesParsed, SaysViable};
 ghost use Rattle.kex_stage.specs.declared.oracle.Oracle.TheVariants as oracle;
-ghost use Rattle.kex_stage.specs.Plans.{SaysAs, teller_of};
+ghost use Rattle.kex_plan.specs.Plans.{SaysAs, teller_of};
 ghost use Rattle.kex_stage.specs.StageLaws.{answering};
 ghost use Rattle.kex_stage.specs.Stages.{Gives, StageFollows, refused_at};
 ghost use Rattle.kex_chunk_stage.specs.TableWorkers.{table_plan_of, teller_by};
@@ -14,9 +14,9 @@ use kex_code::code::Code;
 use kex_code::memory::Memory;
 use kex_machine::Trimmed;
 use kex_pipe::worker::Worker;
+use kex_plan::plan::{Plan, Telling};
+use kex_plan::route::Route;
 use kex_stage::follower::Follower;
-use kex_stage::plan::{Plan, Telling};
-use kex_stage::route::Route;
 use kex_stage::speak::{StageFault, speak};
 use std::alloc::Global;
 use std::marker::Model;
@@ -31,7 +31,7 @@ pub struct TableBasis<'p> {
 
 impl<'p> Model for TableBasis<'p> {
     ghost use Rattle.kex_machine.specs.Nodes.{IsTrimmed};
-    ghost use Rattle.kex_stage.specs.Plans.{IsTableAs};
+    ghost use Rattle.kex_plan.specs.Plans.{IsTableAs};
     ghost use Rattle.kex_chunk_stage.specs.TableWorkers.{TablePlan};
 
     ghost Value = { TablePlan };

@@ -11,8 +11,8 @@ use Rattle.kex_model.specs.Programs.{Grammar}
 use Rattle.kex_machine.specs.Nodes.{Graph, node_moves}
 use Rattle.kex_sst.specs.Tables.{Transducer}
 use Rattle.kex_lowering.proofs.States.{same_states}
-use Rattle.kex_stage.specs.declared.plan.Telling.{Telling}
-use Rattle.kex_stage.specs.declared.plan.Telling.TheVariants as telling
+use Rattle.kex_plan.specs.declared.plan.Telling.{Telling}
+use Rattle.kex_plan.specs.declared.plan.Telling.TheVariants as telling
 use Rattle.kex_cover.specs.Optimal.{RefusesOptimal, wholes}
 use Rattle.kex_cover.specs.declared.refusal.CoverRefusal.{CoverRefusal}
 use Rattle.kex_cover.specs.declared.refusal.CoverRefusal.TheVariants as cover

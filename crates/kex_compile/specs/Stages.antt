@@ -15,9 +15,9 @@ use Rattle.kex_cover.specs.Optimal.{IsOptimal, SomeAsksMore}
 use Rattle.kex_cover.specs.declared.refusal.CoverRefusal.{CoverRefusal}
 use Rattle.kex_cover.specs.declared.refusal.CoverRefusal.TheVariants as cover
 use Rattle.kex_alike.specs.StageTests.{HasTooManyPairs}
-use Rattle.kex_stage.specs.Plans.{Planned}
-use Rattle.kex_stage.specs.declared.plan.Telling.{Telling}
-use Rattle.kex_stage.specs.declared.plan.Telling.TheVariants as telling
+use Rattle.kex_plan.specs.Plans.{Planned}
+use Rattle.kex_plan.specs.declared.plan.Telling.{Telling}
+use Rattle.kex_plan.specs.declared.plan.Telling.TheVariants as telling
 use Rattle.kex_desugar.specs.Machines.{HasMore}
 use Rattle.kex_lowering.specs.Stages.{Carries, HasPlaces, IsKeptOf, IsWhy}
 use Rattle.kex_lowering.specs.declared.refusal.StageRefusal.{StageRefusal}

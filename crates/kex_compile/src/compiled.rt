@@ -5,11 +5,11 @@ ghost use Rattle.std.specs.Prelude.{Option, length, map};
 ghost use Rattle.kex_code.specs.Codes.{HasNumber};
 ghost use Rattle.kex_machine.specs.Nodes.{Graph};
 ghost use Rattle.kex_sst.specs.Tables.{Transducer};
-ghost use Rattle.kex_stage.specs.Plans.{AllTell, machine_of, teller_of, tellers};
+ghost use Rattle.kex_plan.specs.Plans.{AllTell, machine_of, teller_of, tellers};
 ghost use Rattle.kex_compile.specs.Stages.{states_if, table_of};
 
 use kex_code::memory::Memory;
-use kex_stage::plan::{Plan, Telling};
+use kex_plan::plan::{Plan, Telling};
 use std::alloc::Global;
 use std::marker::Model;
 
@@ -25,7 +25,7 @@ pub struct Compiled {
 
 impl Model for Compiled {
     ghost use Rattle.std.specs.Prelude.{◌<◌, ◌^◌, length, map};
-    ghost use Rattle.kex_stage.specs.Plans.{AllTell, machine_of};
+    ghost use Rattle.kex_plan.specs.Plans.{AllTell, machine_of};
     ghost use Rattle.kex_compile.specs.Stages.{Plans, StandAtNumbers, stage_in, table_of};
 
     ghost Value = { Plans };

@@ -24,9 +24,9 @@ use crate::limits::Limits;
 use crate::refusal::CompileRefusal;
 use crate::stages::{lower_stages, plan_stages};
 use kex_machine::Trimmed;
+use kex_plan::common::Common;
 use kex_reader::read;
 use kex_rules::check;
-use kex_stage::common::Common;
 use std::alloc::Global;
 
 /// The plans of a program text.

@@ -7,7 +7,7 @@ ghost use Rattle.kex_compile.specs.Stages.{StandAtNumbers, stage_of};
 
 use kex_code::memory::Memory;
 use kex_machine::Trimmed;
-use kex_stage::common::Common;
+use kex_plan::common::Common;
 use std::alloc::Global;
 use std::marker::Model;
 

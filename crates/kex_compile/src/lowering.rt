@@ -11,7 +11,7 @@ use crate::lowered::Lowered;
 use kex_code::memory::Memory;
 use kex_lowering::stage_machine;
 use kex_model::program::Program;
-use kex_stage::common::Common;
+use kex_plan::common::Common;
 use std::alloc::Global;
 
 /// How many places a stage may have.

@@ -19,8 +19,8 @@ use kex_cover::refusal::CoverRefusal;
 use kex_determine::determine;
 use kex_determine::refusal::DetRefusal;
 use kex_machine::Trimmed;
-use kex_stage::common::Common;
-use kex_stage::plan::{Plan, Telling};
+use kex_plan::common::Common;
+use kex_plan::plan::{Plan, Telling};
 use std::alloc::Global;
 
 /// How many pairs the test of a leaf may have.

@@ -2,7 +2,7 @@
 use Rattle.std.proofs.Common.{◌≡◌, ◌≤◌, ◌<◌, ◌+◌, ℕ, zero, suc, Bool, true, List, [], ◌∷◌, length, take, refl, ap, subst, ◌∙◌, arith}
 use Rattle.kex_model.specs.Answers.{Answer, Answers, LongestGood, bad_byte, too_long, cut_off, whole, still_open}
 use Rattle.kex_machine.specs.Answers.{HasRun, IsViableFor, MeansByRun}
-use Rattle.kex_stage.specs.Plans.{Planned, SaysAs}
+use Rattle.kex_plan.specs.Plans.{Planned, SaysAs}
 use Rattle.kex_each.specs.Answers.{plans_within}
 use Rattle.kex_each.specs.Laws.{IsKeptEnough}
 use Rattle.kex_each.specs.Pieces.{IsEnough}

@@ -3,7 +3,7 @@ use Rattle.std.specs.Prelude.{◌≡◌, ◌++◌, ℕ, Bool, true, false, List,
 use Rattle.std.specs.Prelude.{Option, Some, None}
 use Rattle.kex_model.specs.Answers.{Answer, Report, Pipeline, Why, at_byte, at_end, at_limit}
 use Rattle.kex_pipe.specs.Rounds.{Each}
-use Rattle.kex_stage.specs.Plans.{Planned, teller_of}
+use Rattle.kex_plan.specs.Plans.{Planned, teller_of}
 use Rattle.kex_stage.specs.Stages.{StagePlan, Gives}
 use Rattle.kex_words.specs.Lines.{rejected_line, too_long_line}
 

@@ -1,17 +1,17 @@
 // The answers to lines that are at hand.
 
-ghost use Rattle.std.specs.Prelude.{◌≡◌, ◌≤◌, IfOk, map};
-ghost use Rattle.kex_stage.specs.Plans.{AllTell};
+ghost use Rattle.std.specs.Prelude.{◌≤◌, IfOk, map};
+ghost use Rattle.kex_plan.specs.Plans.{AllTell};
 ghost use Rattle.kex_stage.specs.Stages.{Gives};
-ghost use Rattle.kex_stage.specs.declared.plan.Telling.TheVariants as telling;
+ghost use Rattle.kex_plan.specs.declared.plan.Telling.TheVariants as telling;
 ghost use Rattle.kex_each.specs.Answers.{AnswersLine, PlansAnswerLines, plans_within};
 
 use crate::clerk::Clerk;
 use crate::desks::Desks;
 use crate::texts::Texts;
 use kex_code::memory::Memory;
+use kex_plan::plan::Plan;
 use kex_ports::Gate;
-use kex_stage::plan::Plan;
 use std::alloc::Global;
 use std::thread::Threads;
 

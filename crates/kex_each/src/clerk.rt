@@ -14,7 +14,7 @@ use crate::texts::Texts;
 use kex_code::memory::Memory;
 use kex_pipe::report::Rejected;
 use kex_pipe::turn::{Stop, Turn, Why};
-use kex_stage::plan::Plan;
+use kex_plan::plan::Plan;
 use kex_stage::stage::Stage;
 use kex_words::{Note, push_line};
 use std::alloc::Global;

@@ -6,7 +6,7 @@ ghost use Rattle.kex_each.specs.Answers.{plans_within};
 use crate::clerk::Clerk;
 use crate::texts::Texts;
 use kex_code::memory::Memory;
-use kex_stage::plan::Plan;
+use kex_plan::plan::Plan;
 use std::alloc::Global;
 use std::marker::Model;
 
@@ -49,6 +49,7 @@ impl<'p> Model for Desk<'p> {
 }
 
 impl<'p> Desk<'p> {
+    /// For lines through these stages, each within the limit. It has no answers yet.
     pub fn new(alloc: Global, plans: &'p [Plan], max_input: u64) -> Result<Desk<'p>, Memory>
         ensures { IfOk result (λ desk.
             desk ≡ record { plans = plans_within max_input plans.now; answers = [] }) }

@@ -10,8 +10,8 @@ ghost use Rattle.kex_each.specs.Desks.{AllWorked, lines_between, without_answers
 use crate::desk::{Desk, LineDesk};
 use crate::texts::Texts;
 use kex_code::memory::Memory;
+use kex_plan::plan::Plan;
 use kex_ports::Gate;
-use kex_stage::plan::Plan;
 use std::alloc::Global;
 use std::marker::Model;
 use std::thread::{Threads, join_mut};

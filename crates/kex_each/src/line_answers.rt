@@ -1,9 +1,8 @@
 // The answers to the lines of a text that comes in pieces.
 
 ghost use Rattle.std.specs.Prelude.{◌≡◌, ◌+◌, ◌<◌, ◌≤◌, ◌^◌, ◌++◌, [], List, ℕ, IfOk, OnOk, length};
-ghost use Rattle.std.specs.List.{concat};
-ghost use Rattle.kex_stage.specs.Plans.{AllTell};
-ghost use Rattle.kex_stage.specs.declared.plan.Telling.TheVariants as telling;
+ghost use Rattle.kex_plan.specs.Plans.{AllTell};
+ghost use Rattle.kex_plan.specs.declared.plan.Telling.TheVariants as telling;
 ghost use Rattle.kex_each.specs.Answers.{plans_within};
 ghost use Rattle.kex_each.specs.Lines.{IsBegunBehind, begun_behind, lines_behind, line_if_some};
 ghost use Rattle.kex_each.specs.Pieces.{WritesAnswers};
@@ -12,8 +11,8 @@ use crate::desks::Desks;
 use crate::lines::Lines;
 use crate::texts::Texts;
 use kex_code::memory::Memory;
+use kex_plan::plan::Plan;
 use kex_ports::Gate;
-use kex_stage::plan::Plan;
 use std::alloc::Global;
 use std::marker::Model;
 use std::thread::Threads;

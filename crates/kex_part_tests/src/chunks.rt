@@ -4,12 +4,12 @@ use crate::made::ANY;
 use kex_chunks::{chunk, compose, feed_many};
 use kex_code::code::Code;
 use kex_compile::compile;
+use kex_plan::plan::Plan;
 use kex_ports::{MeetGate, OpenGate};
 use kex_runner::runner::Runner;
 use kex_runner::{Applied, Fed};
 use kex_sst::summary::{Course, Summary};
 use kex_sst::table::Table;
-use kex_stage::plan::Plan;
 use std::alloc::{AllocError, Global};
 use std::test::Fail;
 

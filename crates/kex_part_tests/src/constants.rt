@@ -2,8 +2,8 @@
 use crate::made::ANY;
 use kex_compile::compile;
 use kex_constants::{clear_table, shorten_table};
+use kex_plan::plan::Plan;
 use kex_sst::table::Table;
-use kex_stage::plan::Plan;
 use std::alloc::{AllocError, Global};
 use std::test::Fail;
 

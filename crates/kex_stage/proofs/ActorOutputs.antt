@@ -5,7 +5,7 @@ use Rattle.kex_machine.specs.Nodes.{Graph}
 use Rattle.kex_machine.specs.Answers.{IsViableFor}
 use Rattle.kex_action.specs.Actors.{Position, HasPerformed, BeginsRun, WentOn, TookAll}
 use Rattle.kex_moves.specs.Speech.{PerformsSaid}
-use Rattle.kex_stage.specs.declared.plan.Telling.{Telling}
+use Rattle.kex_plan.specs.declared.plan.Telling.{Telling}
 use Rattle.kex_stage.specs.declared.oracle.Oracle.{Oracle}
 use Rattle.kex_stage.specs.Oracles.{HearsOn, Tells, TellsEnd}
 use Rattle.kex_stage.specs.Works.{Followed, StageGoes, StageWorks, StageFinishes}

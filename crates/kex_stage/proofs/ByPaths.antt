@@ -10,7 +10,7 @@ use Rattle.kex_machine.specs.Answers.{IsViableFor, HasRun, IsSaid, IsGreedy}
 use Rattle.kex_frontier.specs.Frontiers.{Front, IsFed, IsOver}
 use Rattle.kex_frontier.specs.declared.frontier.Ended.{Ended}
 use Rattle.kex_frontier.specs.declared.frontier.Ended.TheVariants.{Parsed, Cut}
-use Rattle.kex_stage.specs.declared.plan.Telling.TheVariants as telling
+use Rattle.kex_plan.specs.declared.plan.Telling.TheVariants as telling
 use Rattle.kex_stage.specs.declared.oracle.Oracle.TheVariants.{Paths}
 use Rattle.kex_stage.specs.Oracles.{Agrees, HasSurvivor, HearsOn, Tells, TellsEnd, ReadsOn, OracleReads, is_parsed}
 use Rattle.kex_stage.proofs.OracleAnswers.{whole_front, said_before, agrees, take_all, more_taken}

@@ -20,8 +20,8 @@ use Rattle.kex_runner.proofs.FedRunners.{stopped_none}
 use Rattle.kex_stage.specs.declared.follower.Follower.{Follower}
 use Rattle.kex_stage.specs.declared.oracle.Oracle.{Oracle}
 use Rattle.kex_stage.specs.declared.oracle.Oracle.TheVariants.{Table}
-use Rattle.kex_stage.specs.declared.plan.Telling.{Telling}
-use Rattle.kex_stage.specs.Plans.{IsTableAs, ToldBy}
+use Rattle.kex_plan.specs.declared.plan.Telling.{Telling}
+use Rattle.kex_plan.specs.Plans.{IsTableAs, ToldBy}
 use Rattle.kex_stage.specs.Oracles.{Hears, Agrees, HearsOn, Tells, TellsEnd}
 use Rattle.kex_stage.proofs.ToldCodes.{greedy_told, viable_told}
 use Rattle.kex_stage.proofs.OracleAnswers.{take_all}

@@ -11,11 +11,11 @@ use Rattle.kex_runner.specs.Following.{pass_at}
 use Rattle.kex_stage.specs.declared.follower.Follower.{Follower}
 use Rattle.kex_stage.specs.declared.oracle.Oracle.{Oracle}
 use Rattle.kex_stage.specs.declared.oracle.Oracle.TheVariants.{Table}
-use Rattle.kex_stage.specs.declared.plan.Telling.{Telling}
+use Rattle.kex_plan.specs.declared.plan.Telling.{Telling}
 use Rattle.kex_stage.specs.declared.speak.StageFault.{StageFault}
 use Rattle.kex_stage.specs.declared.speak.StageFault.TheVariants as faults
 use Rattle.kex_stage.specs.Ahead.{FinishesPast}
-use Rattle.kex_stage.specs.Plans.{teller}
+use Rattle.kex_plan.specs.Plans.{teller}
 use Rattle.kex_stage.specs.Stages.{ClosesAs, StageFollows}
 use Rattle.kex_stage.specs.Works.{Followed, RefusesNone}
 use Rattle.kex_stage.proofs.OracleAnswers.{means}

@@ -6,9 +6,9 @@ use Rattle.kex_machine.specs.Answers.{HasRun, MeansByRun, IsViableFor}
 use Rattle.kex_action.specs.Actors.{Position}
 use Rattle.kex_pipe.specs.Working.{CameToEnd, ReadMore}
 use Rattle.kex_pipe.proofs.ViableAnswers.{refuses}
-use Rattle.kex_stage.specs.declared.plan.Telling.{Telling}
+use Rattle.kex_plan.specs.declared.plan.Telling.{Telling}
 use Rattle.kex_stage.specs.declared.oracle.Oracle.{Oracle}
-use Rattle.kex_stage.specs.Plans.{SaysAs, teller}
+use Rattle.kex_plan.specs.Plans.{SaysAs, teller}
 use Rattle.kex_stage.specs.StageLaws.{told_orderly}
 use Rattle.kex_stage.specs.Oracles.{read_of}
 use Rattle.kex_stage.specs.Works.{Followed, StageWorks, WorksOn, StageFinishes}

@@ -14,7 +14,7 @@ use Rattle.kex_runner.specs.Following.{IsTablePlace, pass_at}
 use Rattle.kex_stage.specs.declared.follower.Follower.{Follower}
 use Rattle.kex_stage.specs.declared.oracle.Oracle.{Oracle}
 use Rattle.kex_stage.specs.declared.oracle.Oracle.TheVariants.{Table}
-use Rattle.kex_stage.specs.Plans.{IsTableAs, SaysAs}
+use Rattle.kex_plan.specs.Plans.{IsTableAs, SaysAs}
 use Rattle.kex_stage.specs.Oracles.{Agrees}
 use Rattle.kex_stage.specs.Works.{Followed, StageWorks, StageGoes}
 use Rattle.kex_stage.specs.Strides.{GoesOnBy, HasGone, HasStrode, LeavesNone, after_more, strode}

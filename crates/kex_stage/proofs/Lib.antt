@@ -1,5 +1,4 @@
 pub mod ToldCodes
-pub mod ToldPlans
 pub mod OracleAnswers
 pub mod ByPaths
 pub mod ByTable

@@ -11,12 +11,12 @@ use Rattle.kex_runner.specs.Running.{pass_of}
 use Rattle.kex_stage.specs.declared.follower.Follower.{Follower}
 use Rattle.kex_stage.specs.declared.oracle.Oracle.{Oracle}
 use Rattle.kex_stage.specs.declared.oracle.Oracle.TheVariants.{Table}
-use Rattle.kex_stage.specs.declared.plan.Telling.{Telling}
+use Rattle.kex_plan.specs.declared.plan.Telling.{Telling}
 use Rattle.kex_stage.specs.declared.speak.StageFault.{StageFault}
 use Rattle.kex_stage.specs.declared.speak.StageFault.TheVariants as faults
 use Rattle.kex_stage.specs.Oracles.{Agrees, Tells, TellsEnd, ShowsEnd}
 use Rattle.kex_stage.specs.Works.{StageGoes, RefusesNone}
-use Rattle.kex_stage.specs.Plans.{teller}
+use Rattle.kex_plan.specs.Plans.{teller}
 use Rattle.kex_stage.specs.Stages.{ClosesAs, SaysOf, StageFollows}
 use Rattle.kex_stage.proofs.ByTable.{still_live, table_agrees}
 

@@ -10,10 +10,10 @@ use Rattle.kex_model.proofs.Derivations.{walk-append, code_of-append}
 use Rattle.kex_machine.specs.Nodes.{Graph, node_moves}
 use Rattle.kex_machine.specs.Answers.{IsViableFor, IsRun, left_by, MeansByRun, IsSaid, IsGreedy}
 use Rattle.kex_action.specs.Actors.{Position, HasPerformed, IsSettled}
-use Rattle.kex_stage.specs.declared.plan.Telling.{Telling}
-use Rattle.kex_stage.specs.declared.plan.Telling.TheVariants as telling
+use Rattle.kex_plan.specs.declared.plan.Telling.{Telling}
+use Rattle.kex_plan.specs.declared.plan.Telling.TheVariants as telling
 use Rattle.kex_stage.specs.Oracles.{Agrees, HasSurvivor}
-use Rattle.kex_stage.specs.Plans.{SaysAs}
+use Rattle.kex_plan.specs.Plans.{SaysAs}
 
 -- the longest front that can go on of a text that can is the text
 pub whole_front : (g : Graph) (w of : List ℕ) → LongestViable (node_moves g.nodes) g.start w of → IsViableFor g w → of ≡ w

@@ -12,8 +12,8 @@ use Rattle.kex_machine.proofs.Ranges.{is_trim}
 use Rattle.kex_machine.proofs.LongestFronts.{longest_self, longest_later, viable_before}
 use Rattle.kex_sst.specs.Tables.{Transducer}
 use Rattle.kex_sst.specs.Passes.{Pass, first_pass, passes, whole_code}
-use Rattle.kex_stage.specs.declared.plan.Telling.{Telling}
-use Rattle.kex_stage.specs.Plans.{IsTableAs, SaysAs, teller}
+use Rattle.kex_plan.specs.declared.plan.Telling.{Telling}
+use Rattle.kex_plan.specs.Plans.{IsTableAs, SaysAs, teller}
 use Rattle.kex_stage.specs.Stages.{TablesAnswer, TellerAnswers}
 use Rattle.kex_stage.proofs.ToldCodes.{viable_told}
 use Rattle.kex_stage.proofs.ByTable.{table_agrees}

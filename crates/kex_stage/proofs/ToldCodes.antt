@@ -9,9 +9,9 @@ use Rattle.kex_machine.specs.Answers.{IsViableFor, IsGreedy}
 use Rattle.kex_machine.proofs.BestAnswers.{best_greedy}
 use Rattle.kex_sst.specs.Tables.{Transducer}
 use Rattle.kex_sst.specs.Machines.{IsBestTableOf, IsTableOf}
-use Rattle.kex_stage.specs.Plans.{IsTableAs, IsTableFor, ToldBy}
-use Rattle.kex_stage.specs.declared.plan.Telling.{Telling}
-use Rattle.kex_stage.specs.declared.plan.Telling.TheVariants as telling
+use Rattle.kex_plan.specs.Plans.{IsTableAs, IsTableFor, ToldBy}
+use Rattle.kex_plan.specs.declared.plan.Telling.{Telling}
+use Rattle.kex_plan.specs.declared.plan.Telling.TheVariants as telling
 
 -- a text can go on if there is a code to tell of it
 pub viable_told : (k : Telling) (g : Graph) (w : List ℕ) (c : List Symbol) → ToldBy k g w c → IsViableFor g w

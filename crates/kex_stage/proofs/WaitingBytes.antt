@@ -16,7 +16,7 @@ use Rattle.kex_runner.specs.Running.{IsRunOf}
 use Rattle.kex_stage.specs.declared.follower.Follower.{Follower}
 use Rattle.kex_stage.specs.declared.oracle.Oracle.{Oracle}
 use Rattle.kex_stage.specs.declared.oracle.Oracle.TheVariants.{Paths, Table}
-use Rattle.kex_stage.specs.declared.plan.Telling.{Telling}
+use Rattle.kex_plan.specs.declared.plan.Telling.{Telling}
 use Rattle.kex_stage.specs.Ahead.{CanWait, CannotEnd, DoesNothing, IsAdvance, at_node, IsStill, RefusesAfter, TellsNoneOf, WouldTell, heard_part, good_part}
 use Rattle.kex_stage.specs.declared.team.Hearing.{Hearing}
 use Rattle.kex_stage.specs.declared.team.Hearing.TheVariants.{Whole, Refused, PutOff}
@@ -24,7 +24,7 @@ use Rattle.kex_stage.specs.Hearings.{HasHeard, KeepsNone, LeavesWaiting}
 use Rattle.kex_stage.specs.declared.advance.Advance.{Advance}
 use Rattle.kex_stage.specs.declared.advance.Advance.TheVariants as advance
 use Rattle.kex_stage.specs.Oracles.{Hears, Agrees, IsReady, read_of}
-use Rattle.kex_stage.specs.Plans.{IsTableAs, SaysAs, Teller, teller}
+use Rattle.kex_plan.specs.Plans.{IsTableAs, SaysAs, Teller, teller}
 use Rattle.kex_stage.specs.StageLaws.{told_orderly}
 use Rattle.kex_stage.specs.Stages.{ClosesAs, FollowsBehind, SaysOf, StageFollows, TeamFollows, TeamState, refused_at, teller_in}
 use Rattle.kex_stage.specs.Works.{StageWorks}

@@ -20,7 +20,7 @@ use Rattle.kex_stage.specs.declared.ahead.Outlook.TheVariants as outlook
 use Rattle.kex_stage.specs.declared.ahead.Outlook.TheVariants.{Quiet, Told}
 use Rattle.kex_stage.specs.declared.oracle.Oracle.{Oracle}
 use Rattle.kex_stage.specs.declared.oracle.Oracle.TheVariants.{Paths, Table}
-use Rattle.kex_stage.specs.declared.plan.Telling.{Telling}
+use Rattle.kex_plan.specs.declared.plan.Telling.{Telling}
 use Rattle.kex_stage.specs.Works.{Followed}
 
 -- the code of the parts does nothing from a node on, and leads to where a symbol or the end comes

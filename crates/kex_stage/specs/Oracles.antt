@@ -12,9 +12,9 @@ use Rattle.kex_frontier.specs.Frontiers.{Front, IsFed}
 use Rattle.kex_frontier.specs.declared.frontier.Ended.{Ended}
 use Rattle.kex_frontier.specs.declared.frontier.Ended.TheVariants.{Parsed, Cut}
 use Rattle.kex_runner.specs.Running as runs
-use Rattle.kex_stage.specs.Plans.{IsTableAs, ToldBy}
-use Rattle.kex_stage.specs.declared.plan.Telling.{Telling}
-use Rattle.kex_stage.specs.declared.plan.Telling.TheVariants as telling
+use Rattle.kex_plan.specs.Plans.{IsTableAs, ToldBy}
+use Rattle.kex_plan.specs.declared.plan.Telling.{Telling}
+use Rattle.kex_plan.specs.declared.plan.Telling.TheVariants as telling
 use Rattle.kex_stage.specs.declared.oracle.Oracle.{Oracle}
 use Rattle.kex_stage.specs.declared.oracle.Oracle.TheVariants.{Paths, Table}
 

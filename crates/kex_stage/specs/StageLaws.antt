@@ -8,10 +8,10 @@ use Rattle.kex_machine.proofs.BestAnswers.{best_orderly}
 use Rattle.kex_machine.proofs.NodeAnswers.{one_meaning, orderly}
 use Rattle.kex_pipe.specs.Working.{Answering, ClosesParsed, SaysViable}
 use Rattle.kex_pipe.proofs.ViableAnswers as viable
-use Rattle.kex_stage.specs.Plans.{SaysAs, Teller}
+use Rattle.kex_plan.specs.Plans.{SaysAs, Teller}
 use Rattle.kex_stage.specs.Stages.{TellerAnswers}
-use Rattle.kex_stage.specs.declared.plan.Telling.{Telling}
-use Rattle.kex_stage.specs.declared.plan.Telling.TheVariants as telling
+use Rattle.kex_plan.specs.declared.plan.Telling.{Telling}
+use Rattle.kex_plan.specs.declared.plan.Telling.TheVariants as telling
 
 -- what is said grows, whatever an oracle tells
 pub told_orderly : (k : Telling) (g : Graph)

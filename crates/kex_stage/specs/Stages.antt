@@ -8,8 +8,8 @@ use Rattle.kex_sst.specs.Tables.{Transducer}
 use Rattle.kex_action.specs.Actors.{Position}
 use Rattle.kex_pipe.specs.Working.{BoundedPlan, ClosesParsed, SaysViable}
 use Rattle.kex_stage.specs.declared.oracle.Oracle.{Oracle}
-use Rattle.kex_stage.specs.declared.plan.Telling.{Telling}
-use Rattle.kex_stage.specs.Plans.{IsTableAs, SaysAs, Teller, teller}
+use Rattle.kex_plan.specs.declared.plan.Telling.{Telling}
+use Rattle.kex_plan.specs.Plans.{IsTableAs, SaysAs, Teller, teller}
 use Rattle.kex_stage.specs.Oracles.{IsReady, read_of}
 use Rattle.kex_stage.specs.Works.{Followed}
 

@@ -4,8 +4,8 @@ use Rattle.kex_code.specs.declared.symbol.Symbol.{Symbol}
 use Rattle.kex_machine.specs.Nodes.{Graph}
 use Rattle.kex_machine.specs.Answers.{IsViableFor, HasRun, MeansByRun}
 use Rattle.kex_action.specs.Actors.{Position, HasPerformed}
-use Rattle.kex_stage.specs.Plans.{SaysAs}
-use Rattle.kex_stage.specs.declared.plan.Telling.{Telling}
+use Rattle.kex_plan.specs.Plans.{SaysAs}
+use Rattle.kex_plan.specs.declared.plan.Telling.{Telling}
 use Rattle.kex_stage.specs.declared.oracle.Oracle.{Oracle}
 use Rattle.kex_stage.specs.declared.speak.StageFault.{StageFault}
 use Rattle.kex_stage.specs.declared.speak.StageFault.TheVariants as faults

@@ -3,11 +3,11 @@
 ghost use Rattle.std.specs.Prelude.{◌≡◌, [], false, IfOk, IsTrue};
 ghost use Rattle.kex_runner.specs.Running.{IsRunOf};
 
-use crate::route::Route;
 use kex_code::memory::Memory;
 use kex_machine::Trimmed;
 use kex_moves::moves::Moves;
 use kex_moves::phrases::Phrases;
+use kex_plan::route::Route;
 use kex_runner::runner::Runner;
 use kex_script::piece::ByteWord;
 use kex_sst::table::Table;

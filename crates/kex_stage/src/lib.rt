@@ -7,13 +7,10 @@
 
 pub mod advance;
 pub mod ahead;
-pub mod common;
 pub mod follower;
 pub mod laws;
 pub mod oracle;
 mod paths;
-pub mod plan;
-pub mod route;
 pub mod speak;
 pub mod stage;
 mod strides;

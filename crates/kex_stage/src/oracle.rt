@@ -4,7 +4,7 @@ ghost use Rattle.std.specs.Prelude.{◌≡◌, ◌↔◌, ◌+◌, ◌^◌, ◌<
 ghost use Rattle.std.specs.Prelude.{ℕ, OnOk, IsTrue, length};
 ghost use Rattle.kex_machine.specs.Answers.{IsViableFor};
 ghost use Rattle.kex_machine.specs.Nodes.{Graph};
-ghost use Rattle.kex_stage.specs.declared.plan.Telling.{Telling};
+ghost use Rattle.kex_plan.specs.declared.plan.Telling.{Telling};
 ghost use Rattle.kex_stage.specs.Ahead.{CanWait, CannotEnd, FinishesPast, IsAdvance, IsStill};
 ghost use Rattle.kex_stage.specs.Ahead.{PutsNoneOff, SeesAhead, heard_part, good_part};
 ghost use Rattle.kex_stage.specs.Oracles.{Hears, IsOracleFor, IsReady, TellsEnd, learnt_of};
@@ -15,12 +15,12 @@ use crate::advance::{Advance, Approach};
 use crate::ahead::Outlook;
 use crate::follower::Follower;
 use crate::paths::Paths;
-use crate::plan::Plan;
 use crate::speak::{StageFault, speak};
 use kex_action::actor::Actor;
 use kex_code::code::Code;
 use kex_code::memory::Memory;
 use kex_frontier::frontier::Frontier;
+use kex_plan::plan::Plan;
 use std::alloc::Global;
 
 /// Finds the code that the bytes agree on.

@@ -1,15 +1,15 @@
 // A stage: an oracle finds the code, and an actor performs it.
 
 ghost use Rattle.std.specs.Prelude.{◌≡◌, IfOk, OnOk, IsTrue, None};
-ghost use Rattle.kex_stage.specs.Plans.{teller_of};
+ghost use Rattle.kex_plan.specs.Plans.{teller_of};
 ghost use Rattle.kex_stage.specs.StageLaws.{answering};
 ghost use Rattle.kex_stage.specs.Stages.{Gives};
 
-use crate::plan::Plan;
 use crate::worker::StageWorker;
 use kex_code::memory::Memory;
 use kex_pipe::bounded::Bounded;
 use kex_pipe::turn::{Fate, Stop, Turn};
+use kex_plan::plan::Plan;
 use std::alloc::Global;
 
 /// One stage of a pipeline, over the plan that it borrows: bytes come in pieces, and what the plan

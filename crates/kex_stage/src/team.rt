@@ -5,18 +5,18 @@ ghost use Rattle.std.specs.Prelude.{IfOk, IsTrue, OnOk, length};
 ghost use Rattle.kex_pipe.specs.Working.{CameToEnd};
 ghost use Rattle.kex_stage.specs.Ahead.{CanWait, CannotEnd, IsStill, SeesAhead};
 ghost use Rattle.kex_stage.specs.Oracles.{read_of};
-ghost use Rattle.kex_stage.specs.Plans.{teller_of};
+ghost use Rattle.kex_plan.specs.Plans.{teller_of};
 ghost use Rattle.kex_stage.specs.Stages.{ClosesAs, IsTeamReady, TeamFollows, teller_in};
 ghost use Rattle.kex_stage.specs.Hearings.{HasHeard, RefusesNothing, KeepsNone, LeavesWaiting};
 
 use crate::advance::{Advance, Approach};
 use crate::ahead::Outlook;
 use crate::oracle::Oracle;
-use crate::plan::{Plan, Telling};
 use crate::speak::StageFault;
 use kex_action::actor::Actor;
 use kex_code::code::Code;
 use kex_code::memory::Memory;
+use kex_plan::plan::{Plan, Telling};
 use std::alloc::Global;
 use std::marker::Model;
 

@@ -1,22 +1,22 @@
 // What works in a stage.
 
 ghost use Rattle.std.specs.Prelude.{◌≡◌, ◌&&◌, ◌+◌, ◌<◌, ◌≤◌, ◌^◌, ◌++◌, [], ℕ, List, not, true};
-ghost use Rattle.std.specs.Prelude.{false, None, IfOk, OnOk, IsTrue, length};
+ghost use Rattle.std.specs.Prelude.{false, None, IfOk, length};
 ghost use Rattle.kex_pipe.specs.Working.{CameToEnd, ReadMore};
 ghost use Rattle.kex_stage.specs.Ahead.{CanWait};
 ghost use Rattle.kex_stage.specs.Oracles.{oracle_ended, read_of, usable_of};
 ghost use Rattle.kex_stage.specs.Waitings.{HasWaited, IsWaitOver};
-ghost use Rattle.kex_stage.specs.Plans.{teller_of};
+ghost use Rattle.kex_plan.specs.Plans.{teller_of};
 ghost use Rattle.kex_stage.specs.StageLaws.{answering};
 ghost use Rattle.kex_stage.specs.Stages.{ClosesAs, FollowsBehind, Gives, IsTeamReady, SaysOf};
 ghost use Rattle.kex_stage.specs.Stages.{TeamFollows, teller_in};
 
 use crate::advance::Approach;
 use crate::ahead::Outlook;
-use crate::plan::Plan;
 use crate::team::{Hearing, Team};
 use kex_code::memory::Memory;
 use kex_pipe::worker::{BeginsAnew, Worker};
+use kex_plan::plan::Plan;
 use std::alloc::Global;
 use std::marker::Model;
 use std::mem;
@@ -155,7 +155,7 @@ impl<'p> StageWorker<'p> {
 }
 
 impl<'p> Worker for StageWorker<'p> {
-    ghost use Rattle.kex_stage.specs.Plans.{Teller};
+    ghost use Rattle.kex_plan.specs.Plans.{Teller};
 
     type Basis = &'p Plan;
 

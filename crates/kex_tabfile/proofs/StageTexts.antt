@@ -5,8 +5,8 @@ use Rattle.kex_machine.specs.Nodes.{Graph}
 use Rattle.kex_sst.specs.declared.table.Transition.{Transition}
 use Rattle.kex_sst.specs.Tables.{Transducer}
 use Rattle.kex_sst.specs.Machines.{IsTableOf}
-use Rattle.kex_stage.specs.Plans.{Planned}
-use Rattle.kex_stage.specs.declared.plan.Telling.TheVariants as telling
+use Rattle.kex_plan.specs.Plans.{Planned}
+use Rattle.kex_plan.specs.declared.plan.Telling.TheVariants as telling
 use Rattle.kex_tabfile.specs.Lines.{line_behind}
 use Rattle.kex_tabfile.specs.Readers.{ReadSoFar, ReadsBytes}
 use Rattle.kex_tabfile.specs.Walks.{IsStageText}

@@ -5,7 +5,7 @@ use Rattle.std.proofs.lemmas.List.{length-map, length-take-le, map-append}
 use Rattle.std.proofs.lemmas.Option.{slice_get_within}
 use Rattle.kex_model.proofs.DistinctItems.{among_get}
 use Rattle.kex_sst.specs.Tables.{Transducer}
-use Rattle.kex_stage.specs.Plans.{Planned, machine_of}
+use Rattle.kex_plan.specs.Plans.{Planned, machine_of}
 use Rattle.kex_determine.specs.Determined.{IsDetermined}
 use Rattle.kex_tabfile.specs.Lines.{stage_front, stage_line}
 use Rattle.kex_tabfile.specs.Walks.{IsStageText, most_table_states}

@@ -6,7 +6,7 @@ use Rattle.kex_machine.specs.Nodes.{Graph}
 use Rattle.kex_sst.specs.declared.table.Transition.{Transition}
 use Rattle.kex_sst.specs.Tables.{Row, Transducer}
 use Rattle.kex_sst.specs.Machines.{IsTableOf}
-use Rattle.kex_stage.specs.Plans.{Planned, machine_of}
+use Rattle.kex_plan.specs.Plans.{Planned, machine_of}
 use Rattle.kex_determine.specs.Determined.{IsDetermined}
 use Rattle.kex_compile.specs.Compiled.{HasMachines, IsRefused}
 use Rattle.kex_compile.specs.declared.limits.Limits.{Limits}

@@ -8,7 +8,7 @@ use Rattle.kex_sst.specs.declared.parts.Part.{Part}
 use Rattle.kex_sst.specs.declared.table.Transition.{Transition}
 use Rattle.kex_sst.specs.Parts.{Change}
 use Rattle.kex_sst.specs.Tables.{Row, Transducer}
-use Rattle.kex_stage.specs.Plans.{Planned}
+use Rattle.kex_plan.specs.Plans.{Planned}
 use Rattle.kex_determine.specs.Determined.{IsDetermined}
 use Rattle.kex_paths.specs.Nexts.{Outline, IsOfShape, HasClass, IsNext}
 use Rattle.kex_tabfile.specs.Lines.{state_line, init_line, go_line}

@@ -1,8 +1,8 @@
 // Checks table files.
 
 ghost use Rattle.std.specs.Prelude.{◌≡◌, ◌^◌, ◌<◌, ◌≤◌, ℕ, IfErr, IfOk, List, OnOk, length, map};
-ghost use Rattle.kex_stage.specs.Plans.{AllTell, machine_of};
-ghost use Rattle.kex_stage.specs.declared.plan.Telling.TheVariants as telling;
+ghost use Rattle.kex_plan.specs.Plans.{AllTell, machine_of};
+ghost use Rattle.kex_plan.specs.declared.plan.Telling.TheVariants as telling;
 ghost use Rattle.kex_tabfile.specs.Checking.{BreaksEnd, BreaksStages};
 ghost use Rattle.kex_tabfile.specs.Lines.{end_line};
 ghost use Rattle.kex_tabfile.specs.Readers.{ReadsBytes, most_bytes};
@@ -16,8 +16,8 @@ use crate::refusal::TableRefusal;
 use crate::stage::take_stage;
 use kex_compile::machines;
 use kex_machine::Trimmed;
-use kex_stage::common::Common;
-use kex_stage::plan::{Plan, Telling};
+use kex_plan::common::Common;
+use kex_plan::plan::{Plan, Telling};
 use std::alloc::Global;
 
 /// How many bytes a table file may have.

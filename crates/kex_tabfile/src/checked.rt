@@ -3,7 +3,7 @@
 ghost use Rattle.std.specs.Prelude.{◌≡◌, ◌<◌, ◌^◌, IfOk, length};
 
 use kex_code::memory::Memory;
-use kex_stage::plan::Plan;
+use kex_plan::plan::Plan;
 use std::alloc::Global;
 use std::marker::Model;
 
@@ -16,7 +16,7 @@ pub struct Checked {
 
 impl Model for Checked {
     ghost use Rattle.std.specs.Prelude.{◌<◌, ◌^◌, List, length};
-    ghost use Rattle.kex_stage.specs.Plans.{Planned};
+    ghost use Rattle.kex_plan.specs.Plans.{Planned};
 
     ghost Value = { List Planned };
 

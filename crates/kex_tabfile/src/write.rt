@@ -2,7 +2,7 @@
 
 ghost use Rattle.std.specs.Prelude.{◌≡◌, ℕ, ◌^◌, ◌<◌, ◌≤◌, List, ◌++◌, OnOk, length, map};
 ghost use Rattle.kex_determine.specs.Determined.{IsDetermined};
-ghost use Rattle.kex_stage.specs.Plans.{machine_of};
+ghost use Rattle.kex_plan.specs.Plans.{machine_of};
 ghost use Rattle.kex_tabfile.specs.TableFiles.{ArePlansOf, AreStageTexts, IsTableFile};
 ghost use Rattle.kex_tabfile.specs.TableFiles.{goes_in, goes_of};
 ghost use Rattle.kex_tabfile.specs.Walks.{IsStageText, most_table_states};
@@ -16,9 +16,9 @@ use crate::spell::{
 use crate::state_trees::StateTrees;
 use kex_code::memory::Memory;
 use kex_machine::Trimmed;
+use kex_plan::plan::Plan;
 use kex_sst::fan::Fan;
 use kex_sst::table::Table;
-use kex_stage::plan::Plan;
 use std::alloc::Global;
 
 // Writes the lines by which a state goes on.

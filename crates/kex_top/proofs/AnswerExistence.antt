@@ -14,9 +14,9 @@ use Rattle.kex_pipe.specs.declared.report.Rejected.{Rejected}
 use Rattle.kex_pipe.specs.declared.turn.Why.{Why}
 use Rattle.kex_pipe.specs.declared.turn.Why.TheVariants.{Byte, End, Limit}
 use Rattle.kex_single.specs.Singles.{MachineCodeAnswers, MeansRunCode, SaysSharedCode}
-use Rattle.kex_stage.specs.declared.plan.Telling.{Telling}
-use Rattle.kex_stage.specs.declared.plan.Telling.TheVariants as telling
-use Rattle.kex_stage.specs.Plans.{IsTableFor, Planned, teller, teller_of}
+use Rattle.kex_plan.specs.declared.plan.Telling.{Telling}
+use Rattle.kex_plan.specs.declared.plan.Telling.TheVariants as telling
+use Rattle.kex_plan.specs.Plans.{IsTableFor, Planned, teller, teller_of}
 use Rattle.kex_stage.specs.Stages.{Gives}
 use Rattle.kex_stage.proofs.TableAnswers.{tables_answer}
 use Rattle.kex_sst.specs.Tables.{Transducer}

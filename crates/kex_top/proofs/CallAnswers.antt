@@ -22,9 +22,9 @@ use Rattle.kex_words.specs.Words.Asked.{ToCheck, ToStream, ToTry}
 use Rattle.kex_words.specs.Words.Mode.{running, coding, acting, testing}
 use Rattle.kex_model.specs.Programs.{Grammar}
 use Rattle.kex_lowering.proofs.BestCodes.{carries_best}
-use Rattle.kex_stage.specs.Plans.{Teller, teller}
+use Rattle.kex_plan.specs.Plans.{Teller, teller}
 use Rattle.kex_stage.specs.Stages.{Gives, StagePlan, TellerAnswers}
-use Rattle.kex_stage.specs.declared.plan.Telling.{Telling}
+use Rattle.kex_plan.specs.declared.plan.Telling.{Telling}
 use Rattle.kex_compile.specs.Stages.{AreStages, Plans, asked_telling, roots_of}
 use Rattle.kex_compile.specs.Compiled.{Accepts, IsCompiled, IsRefused}
 use Rattle.kex_compile.specs.declared.limits.Limits.{Limits}

@@ -12,9 +12,9 @@ use Rattle.kex_sst.specs.Machines.{IsTableOf}
 use Rattle.kex_sst.specs.Tables.{Transducer}
 use Rattle.kex_determine.specs.Determined.{IsDetermined}
 use Rattle.kex_lowering.proofs.States.{same_states}
-use Rattle.kex_stage.specs.Plans.{Planned, machine_of}
-use Rattle.kex_stage.specs.declared.plan.Telling.{Telling}
-use Rattle.kex_stage.specs.declared.plan.Telling.TheVariants as telling
+use Rattle.kex_plan.specs.Plans.{Planned, machine_of}
+use Rattle.kex_plan.specs.declared.plan.Telling.{Telling}
+use Rattle.kex_plan.specs.declared.plan.Telling.TheVariants as telling
 use Rattle.kex_compile.specs.Compiled.{HasMachines, IsCompiled}
 use Rattle.kex_compile.specs.Stages.{AreStages, AreTabled, CanRun, HasTableIf, HasTooManyStates, IsStage, Plans, asked_telling, roots_of, table_of}
 use Rattle.kex_compile.specs.declared.limits.Limits.{Limits}

@@ -5,9 +5,9 @@ use Rattle.std.proofs.lemmas.Bool.{false≢true}
 use Rattle.std.proofs.lemmas.List.{map-append, map_more}
 use Rattle.kex_sst.specs.Tables.{Transducer}
 use Rattle.kex_machine.specs.Nodes.{Graph}
-use Rattle.kex_stage.specs.Plans.{Planned, Teller, teller_of}
+use Rattle.kex_plan.specs.Plans.{Planned, Teller, teller_of}
 use Rattle.kex_stage.specs.Stages.{StagePlan}
-use Rattle.kex_stage.specs.declared.plan.Telling.{Telling}
+use Rattle.kex_plan.specs.declared.plan.Telling.{Telling}
 use Rattle.kex_compile.specs.Stages.{AreTabled, HasTableIf, asked_telling, table_of}
 use Rattle.kex_compile.specs.declared.limits.Limits.{Limits}
 use Rattle.kex_top.specs.Pipelines.{stage_plans}

@@ -6,8 +6,8 @@ use Rattle.kex_pipe.specs.Reports.{report_as}
 use Rattle.kex_ports.specs.Named.{Texts}
 use Rattle.kex_ports.specs.Reads.{Reads, last_given}
 use Rattle.kex_ports.specs.Shelf.{IsTold, ShelfText, told_of}
-use Rattle.kex_stage.specs.Plans.{Planned, machine_of}
-use Rattle.kex_stage.specs.declared.plan.Telling.TheVariants as telling
+use Rattle.kex_plan.specs.Plans.{Planned, machine_of}
+use Rattle.kex_plan.specs.declared.plan.Telling.TheVariants as telling
 use Rattle.kex_compile.specs.Compiled.{IsCompiled}
 use Rattle.kex_compile.specs.Stages.{Plans, roots_of}
 use Rattle.kex_tabfile.specs.Readers.{most_bytes}

@@ -7,7 +7,7 @@ use Rattle.kex_ports.specs.Shelf.{ShelfText, present, told_of}
 use Rattle.kex_model.specs.Programs.{Grammar}
 use Rattle.kex_reader.specs.Spelling.{Spells}
 use Rattle.kex_compile.specs.Stages.{HaveInAll, HaveStatesInAll, roots_of}
-use Rattle.kex_stage.specs.Plans.{Planned}
+use Rattle.kex_plan.specs.Plans.{Planned}
 use Rattle.kex_tabfile.specs.TableFiles.{ArePlansOf, IsGood}
 use Rattle.kex_words.specs.Words.{most_input}
 use Rattle.kex_words.specs.Gains.{StreamChange, GainsFront, GainsWhole}

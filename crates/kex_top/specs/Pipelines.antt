@@ -6,10 +6,10 @@ use Rattle.kex_model.specs.Answers.{Answer, Pipeline, Means}
 use Rattle.kex_model.specs.Laws.{StageAnswers}
 use Rattle.kex_machine.specs.Nodes.{Graph}
 use Rattle.kex_pipe.specs.Reports.{report_as}
-use Rattle.kex_stage.specs.Plans.{Teller, tellers}
+use Rattle.kex_plan.specs.Plans.{Teller, tellers}
 use Rattle.kex_stage.specs.Stages.{StagePlan, Gives}
-use Rattle.kex_stage.specs.declared.plan.Telling.{Telling}
-use Rattle.kex_stage.specs.declared.plan.Telling.TheVariants as telling
+use Rattle.kex_plan.specs.declared.plan.Telling.{Telling}
+use Rattle.kex_plan.specs.declared.plan.Telling.TheVariants as telling
 use Rattle.kex_compile.specs.Stages.{roots_of}
 use Rattle.kex_top.specs.Answer.{Said}
 

@@ -10,7 +10,7 @@ use Rattle.kex_machine.specs.Nodes.{Graph}
 use Rattle.kex_model.specs.Programs.{Grammar}
 use Rattle.kex_ports.specs.Shelf.{ShelfText, IsTold, IsPast}
 use Rattle.kex_reader.specs.Lines.{behind_feed, feeds}
-use Rattle.kex_stage.specs.Plans.{Planned}
+use Rattle.kex_plan.specs.Plans.{Planned}
 use Rattle.kex_tabfile.specs.Lines.{head_text}
 use Rattle.kex_tabfile.specs.Readers.{most_bytes}
 use Rattle.kex_tabfile.specs.TableFiles.{IsGood, IsTableRefused}

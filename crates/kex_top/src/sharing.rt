@@ -3,8 +3,8 @@ ghost use Rattle.std.specs.Prelude.{◌≡◌, ◌<◌, ◌≤◌, ◌||◌, nat
 
 use crate::piece_length::PieceLength;
 use crate::rounds::MUCH;
+use kex_plan::plan::Plan;
 use kex_sst::table::Table;
-use kex_stage::plan::Plan;
 
 // How many bytes of a piece are worth the start of a thread.
 const WORTH: usize = 65_536;

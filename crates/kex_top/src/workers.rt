@@ -1,7 +1,7 @@
 // The stages of a program with desks, so that workers share what a stage is to read.
 ghost use Rattle.std.specs.Prelude.{◌≡◌, ◌<◌, ◌≤◌, All, IfOk, None, OnErr, length, map, vec_len};
 ghost use Rattle.kex_ports.specs.Reads.{last_given};
-ghost use Rattle.kex_stage.specs.Plans.{teller_of};
+ghost use Rattle.kex_plan.specs.Plans.{teller_of};
 ghost use Rattle.kex_words.specs.Gains.{change_of};
 ghost use Rattle.kex_top.specs.Outside.{Closes, ReadsBlocks};
 ghost use Rattle.kex_top.specs.Piped.{PipeSays, PipeStands, plans_of};
@@ -18,8 +18,8 @@ use crate::stream::run;
 use kex_chunk_stage::chunk_stage::ChunkStage;
 use kex_code::memory::Memory;
 use kex_pipe::turn::Turn;
+use kex_plan::plan::Plan;
 use kex_ports::{Gate, Sink, Source};
-use kex_stage::plan::Plan;
 use kex_words::RunLimits;
 use std::alloc::Global;
 use std::thread::Threads;

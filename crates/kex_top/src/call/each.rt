@@ -4,7 +4,7 @@ ghost use Rattle.std.specs.Prelude.{OnOk, length};
 ghost use Rattle.kex_ports.specs.Endings.{IsUnfinished};
 ghost use Rattle.kex_ports.specs.Reads.{Asks, last_given};
 ghost use Rattle.kex_ports.specs.Shelf.{told_of};
-ghost use Rattle.kex_stage.specs.declared.plan.Telling.TheVariants as telling;
+ghost use Rattle.kex_plan.specs.declared.plan.Telling.TheVariants as telling;
 ghost use Rattle.kex_each.specs.Lines.{IsBegunBehind, begun_behind, lines_behind, line_if_some};
 ghost use Rattle.kex_words.specs.Gains.{change_of};
 ghost use Rattle.kex_words.specs.Words.Asked.{ToEach};

@@ -1,8 +1,8 @@
 // The command that runs a table file.
 ghost use Rattle.std.specs.Prelude.{◌≡◌, IfErr, IfOk, map};
 ghost use Rattle.kex_ports.specs.Shelf.{told_of};
-ghost use Rattle.kex_stage.specs.Plans.{AllTell, machine_of};
-ghost use Rattle.kex_stage.specs.declared.plan.Telling.TheVariants as telling;
+ghost use Rattle.kex_plan.specs.Plans.{AllTell, machine_of};
+ghost use Rattle.kex_plan.specs.declared.plan.Telling.TheVariants as telling;
 ghost use Rattle.kex_words.specs.Gains.{change_of};
 ghost use Rattle.kex_words.specs.Words.{reach_of};
 ghost use Rattle.kex_words.specs.Words.Asked.{ToExec};

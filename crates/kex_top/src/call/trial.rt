@@ -1,10 +1,10 @@
 // The trial: a program of its own on lines of its own.
-ghost use Rattle.std.specs.Prelude.{◌≡◌, ◌≤◌, ◌<◌, ◌+◌, ◌^◌, ◌++◌, [], List, ℕ, Option, None, true};
+ghost use Rattle.std.specs.Prelude.{◌≡◌, ◌≤◌, ◌<◌, ◌+◌, ◌++◌, [], List, ℕ, Option, None, true};
 ghost use Rattle.std.specs.Prelude.{false, All, IfOk, OnOk, drop, length, map};
 ghost use Rattle.kex_ports.specs.Named.{Texts};
 ghost use Rattle.kex_ports.specs.Reads.{Reads};
-ghost use Rattle.kex_stage.specs.Plans.{teller_of};
-ghost use Rattle.kex_stage.specs.declared.plan.Telling.TheVariants as telling;
+ghost use Rattle.kex_plan.specs.Plans.{teller_of};
+ghost use Rattle.kex_plan.specs.declared.plan.Telling.TheVariants as telling;
 ghost use Rattle.kex_words.specs.Words.{most_input};
 ghost use Rattle.kex_words.specs.Gains.{StreamChange, change_of};
 ghost use Rattle.kex_words.specs.Lines.{trial_line};
@@ -35,8 +35,8 @@ use crate::trial_lines::{next, push_line};
 use crate::workers::chunk_pipe_of;
 use kex_code::memory::Memory;
 use kex_compile::compiled::Compiled;
+use kex_plan::plan::Plan;
 use kex_ports::{Failed, Gate, Sink};
-use kex_stage::plan::Plan;
 use kex_words::{TrialCounts, TrialLines, write_trial_counts};
 use std::thread::Threads;
 

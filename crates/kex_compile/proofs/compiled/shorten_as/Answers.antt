@@ -4,7 +4,7 @@ use Rattle.std.proofs.lemmas.Option.{slice_get_read}
 use Rattle.kex_code.specs.Codes.{HasNumber}
 use Rattle.kex_machine.specs.Nodes.{Graph}
 use Rattle.kex_model.proofs.Tables.{some_same}
-use Rattle.kex_stage.specs.Plans.{Planned}
+use Rattle.kex_plan.specs.Plans.{Planned}
 use Rattle.kex_compile.proofs.compiled.shorten_as.Goals as goal
 
 pub returns-then-first-shorter : goal.returns-then-first-shorter

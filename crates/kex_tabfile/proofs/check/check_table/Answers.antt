@@ -1,6 +1,6 @@
 use Rattle.std.proofs.Common.{◌≡◌, ◌≤◌, ◌++◌, length, map, sym, ap, subst, ◌∙◌, arith}
-use Rattle.kex_stage.specs.Plans.{AllTell, machine_of}
-use Rattle.kex_stage.specs.declared.plan.Telling.TheVariants as telling
+use Rattle.kex_plan.specs.Plans.{AllTell, machine_of}
+use Rattle.kex_plan.specs.declared.plan.Telling.TheVariants as telling
 use Rattle.kex_compile.specs.Compiled.{HasMachines}
 use Rattle.kex_tabfile.specs.Lines.{head_text}
 use Rattle.kex_tabfile.specs.Readers.{most_bytes}
@@ -8,7 +8,7 @@ use Rattle.kex_tabfile.specs.TableFiles.{IsBadHead, IsGood, IsTableFile, IsTable
 use Rattle.kex_tabfile.proofs.ResultParts.{if_err}
 use Rattle.kex_tabfile.proofs.FileChecks.{refused_head, refused_text, refused_stages, refused_end, spells_file}
 use Rattle.kex_tabfile.proofs.check.check_table.Goals as goal
-use Rattle.kex_tabfile.proofs.check.check_table.Goals.{In_ok-text, In_ok-plans}
+use Rattle.kex_tabfile.proofs.check.check_table.Goals.{In_ok-text}
 
 module _ (c : In_ok-text) where
   short : length c.args.bytes.now ≤ most_bytes

@@ -1,9 +1,9 @@
 use Rattle.std.proofs.Common.{◌≡◌, suc, ◌+◌, ◌++◌, ◌∷◌, [], Some, length, length-append, arith, map, refl, sym, ap, subst, ◌∙◌, append_assoc}
 use Rattle.std.proofs.lemmas.List.{map-append}
 use Rattle.kex_machine.specs.Nodes.{Graph}
-use Rattle.kex_stage.specs.Plans.{AllTell, Planned, machine_of}
-use Rattle.kex_stage.specs.declared.plan.Telling.TheVariants as telling
-use Rattle.kex_stage.proofs.ToldPlans.{tell_more}
+use Rattle.kex_plan.specs.Plans.{AllTell, Planned, machine_of}
+use Rattle.kex_plan.specs.declared.plan.Telling.TheVariants as telling
+use Rattle.kex_plan.proofs.ToldPlans.{tell_more}
 use Rattle.kex_tabfile.specs.TableFiles.{AreStageTexts, EachHasTable, goes_in, goes_of}
 use Rattle.kex_sst.specs.Tables.{Transducer}
 use Rattle.kex_sst.specs.Machines.{IsTableOf}

@@ -1,6 +1,6 @@
 use Rattle.std.proofs.Common.{◌≡◌, ℕ, ◌++◌, List, length, map}
-use Rattle.kex_stage.specs.Plans.{AllTell, machine_of}
-use Rattle.kex_stage.specs.declared.plan.Telling.TheVariants as telling
+use Rattle.kex_plan.specs.Plans.{AllTell, machine_of}
+use Rattle.kex_plan.specs.declared.plan.Telling.TheVariants as telling
 use Rattle.kex_tabfile.specs.Readers.{ReadsBytes}
 use Rattle.kex_tabfile.specs.TableFiles.{AreStageTexts, EachHasTable, goes_in}
 use Rattle.kex_tabfile.proofs.check.take_stages.Given as goal

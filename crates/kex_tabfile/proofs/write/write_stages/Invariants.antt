@@ -1,5 +1,5 @@
 use Rattle.std.proofs.Common.{◌≡◌, ℕ, ◌++◌, List, map, take}
-use Rattle.kex_stage.specs.Plans.{machine_of}
+use Rattle.kex_plan.specs.Plans.{machine_of}
 use Rattle.kex_tabfile.specs.TableFiles.{AreStageTexts, goes_in}
 use Rattle.kex_tabfile.proofs.write.write_stages.Given as goal
 

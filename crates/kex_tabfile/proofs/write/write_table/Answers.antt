@@ -1,7 +1,7 @@
 use Rattle.std.proofs.Common.{◌++◌, length, map, refl, ap, ◌∙◌, arith}
 use Rattle.std.proofs.lemmas.List.{length-map}
 use Rattle.std.specs.Prelude.{codes}
-use Rattle.kex_stage.specs.Plans.{machine_of}
+use Rattle.kex_plan.specs.Plans.{machine_of}
 use Rattle.kex_compile.proofs.FewStages.{few_machines}
 use Rattle.kex_tabfile.specs.Lines.{name_line, size_line, head_text, end_line}
 use Rattle.kex_tabfile.proofs.WrittenFiles.{file_joined}

@@ -1,6 +1,6 @@
-use Rattle.std.proofs.Common.{◌<◌, ◌∙◌, List, length, map, ap, sym, subst, arith}
+use Rattle.std.proofs.Common.{◌<◌, ◌∙◌, List, length, map, sym, subst, arith}
 use Rattle.std.proofs.lemmas.List.{length-map}
-use Rattle.kex_stage.specs.Plans.{teller_of}
+use Rattle.kex_plan.specs.Plans.{teller_of}
 use Rattle.kex_stage.specs.Stages.{StagePlan}
 use Rattle.kex_chunk_stage.specs.contracts.chunk_stage.ChunkStageTurn.TheImpl.{ghosts}
 use Rattle.kex_top.specs.Pipelines.{AllAnswer, AlwaysSays, StagesSay, stage_plans}

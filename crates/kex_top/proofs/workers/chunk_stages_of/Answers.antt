@@ -1,9 +1,9 @@
-use Rattle.std.proofs.Common.{◌≡◌, ◌∷◌, [], ◌++◌, ◌≤◌, List, length, map, sym, ap, subst, ◌∙◌, arith}
+use Rattle.std.proofs.Common.{◌≡◌, ◌∷◌, [], ◌≤◌, List, length, map, sym, ap, subst, ◌∙◌, arith}
 use Rattle.std.specs.Prelude.{None, All}
 use Rattle.std.proofs.lemmas.List.{map-append, take_all}
 use Rattle.kex_code.specs.Codes.{IsAmong}
 use Rattle.kex_machine.specs.Nodes.{IsMachineInRange}
-use Rattle.kex_stage.specs.Plans.{teller_of}
+use Rattle.kex_plan.specs.Plans.{teller_of}
 use Rattle.kex_stage.specs.Stages.{StagePlan}
 use Rattle.kex_chunk_stage.specs.declared.chunk_stage.ChunkStage.{ChunkStage}
 use Rattle.kex_chunk_stage.specs.contracts.chunk_stage.ChunkStageTurn.TheImpl.{ghosts}

@@ -1,7 +1,7 @@
 use Rattle.std.proofs.Common.{◌≡◌, take, map, vec_len}
 use Rattle.std.specs.Prelude.{None, All}
 use Rattle.kex_code.specs.Codes.{IsAmong}
-use Rattle.kex_stage.specs.Plans.{teller_of}
+use Rattle.kex_plan.specs.Plans.{teller_of}
 use Rattle.kex_stage.specs.Stages.{StagePlan}
 use Rattle.kex_chunk_stage.specs.contracts.chunk_stage.ChunkStageTurn.TheImpl.{ghosts}
 use Rattle.kex_top.specs.Pipelines.{AlwaysAnswers, stage_plans}

@@ -2,7 +2,7 @@ use Rattle.std.proofs.Common.{false, IfOk, List, ℕ, subst, sym}
 use Rattle.kex_pipe.specs.Working.{CameToEnd}
 use Rattle.kex_stage.specs.declared.oracle.Oracle.TheVariants.{Table}
 use Rattle.kex_stage.specs.declared.speak.StageFault.TheVariants as faults
-use Rattle.kex_stage.specs.Plans.{teller}
+use Rattle.kex_plan.specs.Plans.{teller}
 use Rattle.kex_stage.specs.Stages.{ClosesAs, StageFollows}
 use Rattle.kex_stage.proofs.ActorOutputs.{finishes}
 use Rattle.kex_stage.proofs.FedStages.{stage_ends}

@@ -1,8 +1,8 @@
-use Rattle.std.proofs.Common.{◌≡◌, nat_lt, length, sym, subst, ap, ◌∙◌, Bool, IfOk, Option, ℕ, List}
+use Rattle.std.proofs.Common.{◌≡◌, nat_lt, length, sym, subst, ap, ◌∙◌, Bool, IfOk, ℕ, List}
 use Rattle.std.proofs.lemmas.Bool.{ltb-true, ltb-false}
 use Rattle.kex_pipe.specs.Working.{ReadMore}
 use Rattle.kex_stage.specs.declared.oracle.Oracle.TheVariants.{Table}
-use Rattle.kex_stage.specs.Plans.{teller}
+use Rattle.kex_plan.specs.Plans.{teller}
 use Rattle.kex_stage.specs.Stages.{SaysOf, StageFollows, refused_at}
 use Rattle.kex_stage.specs.Works.{RefusesNone}
 use Rattle.kex_stage.proofs.FedStages.{stage_reads}

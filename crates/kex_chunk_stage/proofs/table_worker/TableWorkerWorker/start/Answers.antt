@@ -1,6 +1,6 @@
 use Rattle.std.proofs.Common.{◌≡◌, [], refl, sym, subst}
 use Rattle.kex_machine.specs.Answers.{IsViableFor}
-use Rattle.kex_stage.specs.Plans.{IsTableAs}
+use Rattle.kex_plan.specs.Plans.{IsTableAs}
 use Rattle.kex_stage.specs.declared.oracle.Oracle.TheVariants.{Table}
 use Rattle.kex_stage.specs.Oracles.{Hears}
 use Rattle.kex_stage.proofs.ByTable as by_table

@@ -1,7 +1,7 @@
 use Rattle.std.proofs.Common.{◌≡◌, ◌+◌, ◌∷◌, [], List, length, sym, ap, subst, ◌∙◌, arith, length-append}
 use Rattle.std.proofs.lemmas.List.{length-map}
-use Rattle.kex_stage.specs.Plans.{AllTell, Planned, machine_of}
-use Rattle.kex_stage.proofs.ToldPlans.{tell_more}
+use Rattle.kex_plan.specs.Plans.{AllTell, Planned, machine_of}
+use Rattle.kex_plan.proofs.ToldPlans.{tell_more}
 use Rattle.kex_compile.specs.Stages.{Plans, StandAtNumbers, stage_in}
 use Rattle.kex_compile.proofs.ItemNumbers.{stand-own}
 use Rattle.kex_compile.proofs.compiled.Compiled.push.Goals as goal

@@ -5,9 +5,9 @@ use Rattle.kex_code.specs.Codes.{HasNumber}
 use Rattle.kex_machine.specs.Nodes.{Graph}
 use Rattle.kex_model.proofs.Tables.{some_same}
 use Rattle.kex_sst.specs.Tables.{Row, Transducer}
-use Rattle.kex_stage.specs.Plans.{AllTell, Planned, machine_of}
-use Rattle.kex_stage.specs.declared.plan.Telling.{Telling}
-use Rattle.kex_stage.proofs.ToldPlans.{tell_more}
+use Rattle.kex_plan.specs.Plans.{AllTell, Planned, machine_of}
+use Rattle.kex_plan.specs.declared.plan.Telling.{Telling}
+use Rattle.kex_plan.proofs.ToldPlans.{tell_more}
 use Rattle.kex_compile.specs.Stages.{Plans, StandAtNumbers, stage_in, states_if, table_of}
 use Rattle.kex_compile.proofs.FirstStages.{among-at}
 use Rattle.kex_compile.proofs.ItemNumbers.{number-map, stand-again}

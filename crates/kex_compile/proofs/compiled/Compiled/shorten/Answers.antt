@@ -1,6 +1,6 @@
 use Rattle.std.proofs.Common.{◌≡◌, ◌<◌, ◌^◌, ◌++◌, ◌∷◌, [], List, length, map, sym, ap, ap₂, subst, ◌∙◌, append_assoc}
 use Rattle.kex_code.specs.Codes.{HasNumber}
-use Rattle.kex_stage.specs.Plans.{AllTell, Planned, machine_of}
+use Rattle.kex_plan.specs.Plans.{AllTell, Planned, machine_of}
 use Rattle.kex_compile.specs.Stages.{StandAtNumbers, stage_in, table_of}
 use Rattle.kex_compile.proofs.ItemNumbers.{stand-at}
 use Rattle.kex_compile.proofs.compiled.Compiled.shorten.Goals as goal

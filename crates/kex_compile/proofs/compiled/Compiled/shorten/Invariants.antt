@@ -1,5 +1,5 @@
 use Rattle.std.proofs.Common.{◌≡◌, ◌++◌, ◌<◌, ◌^◌, length, map}
-use Rattle.kex_stage.specs.Plans.{AllTell, machine_of}
+use Rattle.kex_plan.specs.Plans.{AllTell, machine_of}
 use Rattle.kex_compile.specs.Stages.{StandAtNumbers, stage_in, table_of}
 use Rattle.kex_compile.proofs.compiled.Compiled.shorten.Given as goal
 

@@ -1,6 +1,6 @@
 use Rattle.std.proofs.Common.{◌≡◌, List, map, ap, subst, ◌∙◌}
-use Rattle.kex_stage.specs.Plans.{Planned, teller_of, tellers}
-use Rattle.kex_stage.proofs.ToldPlans.{tellers_of}
+use Rattle.kex_plan.specs.Plans.{Planned, teller_of, tellers}
+use Rattle.kex_plan.proofs.ToldPlans.{tellers_of}
 use Rattle.kex_compile.specs.Stages.{Plans}
 use Rattle.kex_compile.proofs.compiled.Compiled.stages.Goals as goal
 

@@ -6,7 +6,6 @@ use Rattle.kex_stage.specs.Works.{RefusesNone, StageGoes, StageWorks}
 use Rattle.kex_stage.proofs.Followers.{cut_at, goes_more, front_works, none_gone, rests, settles, taken_both, works_more}
 use Rattle.kex_stage.proofs.NoRefusals.{if_fault, none_on, rest_none}
 use Rattle.kex_stage.proofs.follower.Follower.go_along.Goals as goal
-use Rattle.kex_stage.proofs.follower.Follower.go_along.Goals.{In-On, In-Refused, In-PutOff}
 
 pub returns-in_err-speak-clause-refuses : goal.returns-in_err-speak-clause-refuses
 returns-in_err-speak-clause-refuses c =

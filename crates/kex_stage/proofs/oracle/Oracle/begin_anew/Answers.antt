@@ -1,6 +1,6 @@
 use Rattle.std.proofs.Common.{◌≡◌, sym, subst, ◌∙◌}
 use Rattle.std.specs.Prelude.{OnOk, Result, Ok, Err}
-use Rattle.kex_stage.specs.Plans.{IsTableAs}
+use Rattle.kex_plan.specs.Plans.{IsTableAs}
 use Rattle.kex_stage.specs.Oracles.{IsOracleFor}
 use Rattle.kex_stage.proofs.ByPaths as by_paths
 use Rattle.kex_stage.proofs.ByTable as by_table

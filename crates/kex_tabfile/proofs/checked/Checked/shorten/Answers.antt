@@ -1,5 +1,5 @@
 use Rattle.std.proofs.Common.{◌++◌, ◌∷◌, [], List, sym, ap, ap₂, ◌∙◌, append_assoc}
-use Rattle.kex_stage.specs.Plans.{Planned}
+use Rattle.kex_plan.specs.Plans.{Planned}
 use Rattle.kex_tabfile.proofs.checked.Checked.shorten.Goals as goal
 
 pub plans-preserved : goal.plans-preserved

@@ -1,6 +1,6 @@
 use Rattle.std.proofs.Common.{rules, ◌≡◌, ◌∙◌, ap, inr, true, false, ℕ, List, length, subst}
 use Rattle.kex_ports.specs.Reads.{Asks, last_given}
-use Rattle.kex_stage.specs.Plans.{AllTell, tellers}
+use Rattle.kex_plan.specs.Plans.{AllTell, tellers}
 use Rattle.kex_stage.specs.Stages.{StagePlan}
 use Rattle.kex_words.specs.Gains.{change}
 use Rattle.kex_top.specs.ByLines.{NodesSayLines, PumpedByLines, line_block}

@@ -1,9 +1,9 @@
 use Rattle.std.proofs.Common.{◌<◌, ◌∙◌, arith, length, map, subst, sym}
 use Rattle.std.proofs.lemmas.List.{length-map}
 use Rattle.kex_ports.specs.Shelf.{told_of}
-use Rattle.kex_stage.specs.Plans.{AllTell, machine_of, teller_of, tellers}
-use Rattle.kex_stage.specs.declared.plan.Telling.TheVariants as telling
-use Rattle.kex_stage.proofs.ToldPlans.{tellers_of}
+use Rattle.kex_plan.specs.Plans.{AllTell, machine_of, teller_of, tellers}
+use Rattle.kex_plan.specs.declared.plan.Telling.TheVariants as telling
+use Rattle.kex_plan.proofs.ToldPlans.{tellers_of}
 use Rattle.kex_words.specs.Words.{reach_of}
 use Rattle.kex_top.specs.Refusals.{HoldsStages}
 use Rattle.kex_top.proofs.CallAnswers.{ran_as}

@@ -3,7 +3,7 @@ use Rattle.std.proofs.lemmas.List.{length-map}
 use Rattle.std.specs.Prelude.{IfOk}
 use Rattle.kex_ports.specs.Reads.{last_given}
 use Rattle.kex_words.specs.Gains.{change}
-use Rattle.kex_stage.specs.Plans.{teller_of}
+use Rattle.kex_plan.specs.Plans.{teller_of}
 use Rattle.kex_stage.specs.Stages.{StagePlan}
 use Rattle.kex_top.specs.Pipelines.{NodesSay, first_limit}
 use Rattle.kex_top.specs.Run.{Ran}

@@ -1,7 +1,7 @@
 use Rattle.std.proofs.Common.{◌≡◌, List, None, ap, sym, subst, ◌∙◌}
 use Rattle.std.proofs.lemmas.Result.{IfOk-weaker}
 use Rattle.std.specs.Prelude.{All, IfOk}
-use Rattle.kex_stage.specs.Plans.{Teller, tellers}
+use Rattle.kex_plan.specs.Plans.{Teller, tellers}
 use Rattle.kex_compile.specs.Stages.{asked_telling}
 use Rattle.kex_ports.specs.Reads.{last_given}
 use Rattle.kex_words.specs.Gains.{change}

@@ -3,7 +3,7 @@ use Rattle.std.specs.Prelude.{None, All}
 use Rattle.std.proofs.lemmas.List.{map-append, take_all}
 use Rattle.kex_code.specs.Codes.{IsAmong}
 use Rattle.kex_machine.specs.Nodes.{IsMachineInRange}
-use Rattle.kex_stage.specs.Plans.{teller_of}
+use Rattle.kex_plan.specs.Plans.{teller_of}
 use Rattle.kex_stage.specs.Stages.{StagePlan}
 use Rattle.kex_stage.specs.declared.stage.Stage.{Stage}
 use Rattle.kex_stage.specs.contracts.stage.StageTurn.TheImpl.{ghosts}

@@ -1,7 +1,7 @@
 use Rattle.std.proofs.Common.{◌≡◌, take, map, vec_len}
 use Rattle.std.specs.Prelude.{None, All}
 use Rattle.kex_code.specs.Codes.{IsAmong}
-use Rattle.kex_stage.specs.Plans.{teller_of}
+use Rattle.kex_plan.specs.Plans.{teller_of}
 use Rattle.kex_stage.specs.Stages.{StagePlan}
 use Rattle.kex_stage.specs.declared.stage.Stage.{Stage}
 use Rattle.kex_stage.specs.contracts.stage.StageTurn.TheImpl.{ghosts}

@@ -1,6 +1,6 @@
 use Rattle.std.proofs.Common.{◌≡◌, None, true, refl, ap, sym, subst, ◌∙◌}
 use Rattle.std.specs.Prelude.{All}
-use Rattle.kex_stage.specs.Plans.{tellers}
+use Rattle.kex_plan.specs.Plans.{tellers}
 use Rattle.kex_words.specs.Words.{most_input}
 use Rattle.kex_top.specs.Pipelines.{NodesSay, stage_plans}
 use Rattle.kex_top.specs.Trials.{made_lines}

@@ -3,9 +3,9 @@
 ghost use Rattle.std.specs.Prelude.{◌≡◌, Some, None, MatchOption, IfOk, IfSome};
 ghost use Rattle.kex_machine.specs.Nodes.{Graph, IsTrimmed};
 ghost use Rattle.kex_sst.specs.Machines.{IsBestTableOf};
-ghost use Rattle.kex_stage.specs.Plans.{IsGuideIf, IsTableAs, IsTableFor, IsTableIf, shortest};
-ghost use Rattle.kex_stage.specs.declared.plan.Telling.{Telling};
-ghost use Rattle.kex_stage.specs.declared.plan.Telling.TheVariants as telling;
+ghost use Rattle.kex_plan.specs.Plans.{IsGuideIf, IsTableAs, IsTableFor, IsTableIf, shortest};
+ghost use Rattle.kex_plan.specs.declared.plan.Telling.{Telling};
+ghost use Rattle.kex_plan.specs.declared.plan.Telling.TheVariants as telling;
 
 use crate::common::Common;
 use crate::route::Route;
@@ -40,7 +40,7 @@ pub struct Plan {
 
 impl Model for Plan {
     ghost use Rattle.std.specs.Prelude.{IfSome};
-    ghost use Rattle.kex_stage.specs.Plans.{IsGuideIf, IsTableAs, IsTableFor, Planned, shortest};
+    ghost use Rattle.kex_plan.specs.Plans.{IsGuideIf, IsTableAs, IsTableFor, Planned, shortest};
 
     ghost Value = { Planned };
 

@@ -1,8 +1,8 @@
 -- Plans that all tell the same.
 use Rattle.std.proofs.Common.{◌≡◌, List, [], ◌∷◌, ◌++◌, inl, inr, map, refl, ap₂, subst}
 use Rattle.kex_code.specs.Codes.{IsAmong}
-use Rattle.kex_stage.specs.declared.plan.Telling.{Telling}
-use Rattle.kex_stage.specs.Plans.{AllTell, Planned, machine_of, teller, teller_of, tellers}
+use Rattle.kex_plan.specs.declared.plan.Telling.{Telling}
+use Rattle.kex_plan.specs.Plans.{AllTell, Planned, machine_of, teller, teller_of, tellers}
 
 -- one plan more
 pub tell_more : (k : Telling) (plans : List Planned) (plan : Planned) → AllTell k plans → plan.telling ≡ k → AllTell k (plans ++ plan ∷ [])

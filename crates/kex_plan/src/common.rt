@@ -21,7 +21,7 @@ pub struct Common<T> {
 }
 
 impl<T> Model for Common<T> {
-    ghost use Rattle.kex_stage.specs.Commons.{owner_value};
+    ghost use Rattle.kex_plan.specs.Commons.{owner_value};
 
     ghost Value = { T };
 

@@ -1,6 +1,6 @@
 -- What plans have in common.
-use Rattle.kex_stage.specs.declared.common.Owner.{Owner}
-use Rattle.kex_stage.specs.declared.common.Owner.TheVariants.{Counted, Alone}
+use Rattle.kex_plan.specs.declared.common.Owner.{Owner}
+use Rattle.kex_plan.specs.declared.common.Owner.TheVariants.{Counted, Alone}
 
 -- the value, whoever has it
 abbrev pub owner_value : {T : Type 0} → Owner T → T
