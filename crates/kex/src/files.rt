@@ -24,6 +24,7 @@ pub struct FileShelf<R: Files + Clock + Drop> {
 }
 
 impl<R: Files + Clock + Drop> FileShelf<R> {
+    /// Of these files.
     pub fn new(files: R) -> Self
         ensures { ⟦<FileShelf<R> as Shelf>⟧.faults result ≡ 0 }
     {

@@ -15,6 +15,7 @@ pub struct Input<R: Read + Drop, C: Clock + Drop> {
 }
 
 impl<R: Read + Drop, C: Clock + Drop> Input<R, C> {
+    /// Of this reader, without a fault so far. The clock waits before a call is tried again.
     pub fn new(reader: R, clock: C) -> Self
         ensures rest { ⟦<Input<R, C> as Source>⟧.rest result ≡ R.remaining reader }
         ensures faults { ⟦<Input<R, C> as Source>⟧.faults result ≡ 0 }

@@ -16,6 +16,7 @@ pub struct Output<W: Write + Drop, C: Clock + Drop> {
 }
 
 impl<W: Write + Drop, C: Clock + Drop> Output<W, C> {
+    /// Of this writer, without a fault so far. The clock waits before a call is tried again.
     pub fn new(writer: W, clock: C) -> Self
         ensures held { ⟦<Output<W, C> as Sink>⟧.held result ≡ W.contents writer }
         ensures faults { ⟦<Output<W, C> as Sink>⟧.faults result ≡ 0 }

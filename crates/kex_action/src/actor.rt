@@ -1,7 +1,7 @@
 // The action machine.
 
 ghost use Rattle.std.specs.Prelude.{◌≡◌, ◌<◌, ◌≤◌, ◌↔◌, [], List, ℕ, IfOk, IsOk, OnOk, IfErr};
-ghost use Rattle.std.specs.Prelude.{All, OnErr, IsTrue, if◌then◌else◌, false, length, take};
+ghost use Rattle.std.specs.Prelude.{All, IsTrue, if◌then◌else◌, false, length, take};
 ghost use Rattle.kex_code.specs.Registers.{content_of};
 ghost use Rattle.kex_code.specs.declared.symbol.Symbol.{Symbol};
 ghost use Rattle.kex_model.specs.Acting.{ActingState};

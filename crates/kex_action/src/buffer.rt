@@ -8,8 +8,8 @@ use kex_code::memory::Memory;
 use std::alloc::Global;
 use std::marker::Model;
 
-// Bytes of an open buffer or of a register: the first `used`. What comes after them doesn't
-// count.
+/// Bytes of an open buffer or of a register: the first `used`. What comes after them doesn't
+/// count.
 #[derive(Drop)]
 pub struct Buffer {
     bytes: Vec<u8>,
@@ -38,6 +38,7 @@ fn make_room(bytes: &mut Vec<u8>, room: usize) -> Result<(), Memory>
 }
 
 impl Buffer {
+    /// No bytes, and no room.
     pub fn new(alloc: Global) -> Buffer
         ensures { result ≡ [] }
     {
@@ -47,6 +48,7 @@ impl Buffer {
         }
     }
 
+    /// Puts bytes after those that it has.
     pub fn append(&mut self, bytes: &[u8]) -> Result<(), Memory>
         ensures { OnOk result (self.new ≡ self.old ++ bytes.now) }
     {
@@ -56,7 +58,7 @@ impl Buffer {
         Ok(())
     }
 
-    // Puts a part of the bytes in the place of all that it has, and keeps the room.
+    /// Puts a part of the bytes in the place of all that it has, and keeps the room.
     #[inline(always)]
     pub fn replace(&mut self, bytes: &[u8], from: usize, to: usize) -> Result<(), Memory>
         requires { (from ≤ to) × (to ≤ length bytes.now) }
@@ -83,13 +85,14 @@ impl Buffer {
         Ok(())
     }
 
+    /// Its bytes.
     pub fn as_slice(&self) -> &[u8]
         ensures { result.now ≡ self.now }
     {
         &self.bytes[..self.used]
     }
 
-    // How many bytes it has.
+    /// How many bytes it has.
     #[inline(always)]
     pub fn len(&self) -> usize
         ensures { result ≡ length self.now }
@@ -97,7 +100,7 @@ impl Buffer {
         self.used
     }
 
-    // Its bytes, and what comes after them.
+    /// Its bytes, and what comes after them.
     #[inline(always)]
     pub fn room(&self) -> &[u8]
         ensures front { take (length self.now) result.now ≡ self.now }
@@ -106,7 +109,7 @@ impl Buffer {
         &self.bytes
     }
 
-    // A buffer with the same bytes.
+    /// A buffer with the same bytes.
     pub fn copy(&self, alloc: Global) -> Result<Buffer, Memory>
         ensures { IfOk result (λ b. b ≡ self.now) }
     {
@@ -115,14 +118,14 @@ impl Buffer {
         Ok(copy)
     }
 
-    // Whether another has the same bytes.
+    /// Whether another has the same bytes.
     pub fn is_same(&self, other: &Buffer) -> bool
         ensures { IsTrue result → self.now ≡ other.now }
     {
         self.as_slice() == other.as_slice()
     }
 
-    // Takes all bytes away, and keeps the room.
+    /// Takes all bytes away, and keeps the room.
     pub fn clear(&mut self)
         ensures { self.new ≡ [] }
     {

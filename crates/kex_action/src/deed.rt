@@ -98,7 +98,7 @@ fn act(
     }
 }
 
-// Does deeds one after another, where this byte is read.
+/// Does deeds one after another, where this byte is read.
 pub fn act_all(
     machine: &Trimmed,
     deeds: &[Deed],
@@ -133,8 +133,8 @@ fn act_by(machine: &Trimmed, n: u32, store: &mut Store, sheet: &mut Sheet) -> Re
     }
 }
 
-// Does a deed on a sheet, where this byte is read. False where it can't be done there: nothing is
-// done then.
+/// Does a deed on a sheet, where this byte is read. False where it can't be done there: nothing is
+/// done then.
 #[inline(always)]
 pub fn act_at(
     machine: &Trimmed,
@@ -165,7 +165,7 @@ pub fn act_at(
     }
 }
 
-// Does deeds on a sheet, one after another, where this byte is read. Tells how many were done.
+/// Does deeds on a sheet, one after another, where this byte is read. Tells how many were done.
 #[inline(always)]
 pub fn act_on(
     machine: &Trimmed,

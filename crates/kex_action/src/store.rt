@@ -20,7 +20,7 @@ use std::alloc::Global;
 use std::marker::Model;
 use std::mem;
 
-// The open buffers, the innermost last, and the registers. An empty buffer is kept for its room.
+/// The open buffers, the innermost last, and the registers. An empty buffer is kept for its room.
 #[derive(Drop)]
 pub struct Store {
     alloc: Global,
@@ -131,7 +131,7 @@ fn are_short(all: &[Buffer], most: usize) -> bool
 }
 
 impl Store {
-    // No buffer is open, and all registers are empty.
+    /// No buffer is open, and all registers are empty.
     pub fn new(alloc: Global, count: u32) -> Result<Store, Memory>
         ensures { IfOk result (λ s. s ≡ record { buffers = []; registers = replicate count [] }) }
     {
@@ -147,7 +147,7 @@ impl Store {
         })
     }
 
-    // No buffer is open any more, and all registers are empty. They keep their room.
+    /// No buffer is open any more, and all registers are empty. They keep their room.
     pub fn begin_anew(&mut self)
         ensures { self.new ≡ record {
           buffers = [];
@@ -158,7 +158,7 @@ impl Store {
         clear_all(&mut self.registers);
     }
 
-    // Has the buffers and the registers of another.
+    /// Has the buffers and the registers of another.
     pub fn hold_like(&mut self, other: &Store) -> Result<(), Memory>
         ensures { OnOk result (self.new ≡ other.now) }
     {
@@ -167,20 +167,21 @@ impl Store {
         Ok(())
     }
 
-    // Whether no buffer and no register has more than `most` bytes.
+    /// Whether no buffer and no register has more than `most` bytes.
     pub fn is_light(&self, most: usize) -> bool
         ensures { IsTrue result → All (λ b. length b ≤ most) self.now.registers }
     {
         are_short(&self.buffers, most) && are_short(&self.registers, most)
     }
 
-    // Whether another has the same buffers and registers.
+    /// Whether another has the same buffers and registers.
     pub fn is_same(&self, other: &Store) -> bool
         ensures { IsTrue result → self.now ≡ other.now }
     {
         are_same(&self.buffers, &other.buffers) && are_same(&self.registers, &other.registers)
     }
 
+    /// What a register has.
     pub fn register(&self, r: u32) -> &[u8]
         requires { r < length self.now.registers }
         ensures { result.now ≡ content_of self.now.registers r }
@@ -188,7 +189,7 @@ impl Store {
         self.registers[r as usize].as_slice()
     }
 
-    // Writes bytes.
+    /// Writes bytes.
     pub fn write(&mut self, bytes: &[u8], out: &mut Vec<u8>) -> Result<(), Memory>
         ensures ok { OnOk result (state_of out.new.items self.new
             ≡ after_append bytes.now out.old.items self.old.buffers self.old.registers) }
@@ -197,7 +198,7 @@ impl Store {
         append_to(&mut self.buffers, bytes, out)
     }
 
-    // Writes what a register has.
+    /// Writes what a register has.
     pub fn write_register(&mut self, r: u32, out: &mut Vec<u8>) -> Result<(), Memory>
         ensures ok { OnOk result (state_of out.new.items self.new ≡ after_append
             (content_of self.old.registers r) out.old.items self.old.buffers self.old.registers) }
@@ -209,7 +210,7 @@ impl Store {
         }
     }
 
-    // Opens a buffer.
+    /// Opens a buffer.
     pub fn open(&mut self) -> Result<(), Memory>
         ensures { OnOk result (self.new
             ≡ record { buffers = [] ∷ self.old.buffers; registers = self.old.registers }) }
@@ -227,7 +228,7 @@ impl Store {
         self.spare = buffer;
     }
 
-    // The innermost buffer goes, if one is open.
+    /// The innermost buffer goes, if one is open.
     pub fn drop_innermost(&mut self)
         ensures { self.new ≡ dropped_from self.old.buffers self.old.registers }
     {
@@ -236,7 +237,7 @@ impl Store {
         }
     }
 
-    // The register takes the innermost buffer, which is moved.
+    /// The register takes the innermost buffer, which is moved.
     pub fn move_into(&mut self, r: u32)
         ensures { self.new ≡ moved_to r self.old.buffers self.old.registers }
     {
@@ -291,7 +292,7 @@ impl Store {
         Ok(())
     }
 
-    // Does an effect.
+    /// Does an effect.
     pub fn perform(&mut self, effect: &Effect, out: &mut Vec<u8>) -> Result<(), Memory>
         requires { HasRegisters (length self.old.registers) effect.now }
         ensures ok { OnOk result (state_of out.new.items self.new
@@ -315,8 +316,8 @@ impl Store {
         }
     }
 
-    // The register takes the innermost buffer of a sheet, if one was opened there. False where it
-    // can't: nothing is done then.
+    /// The register takes the innermost buffer of a sheet, if one was opened there. False where it
+    /// can't: nothing is done then.
     #[inline(always)]
     pub fn take_from(&mut self, r: u32, sheet: &mut Sheet) -> Result<bool, Memory>
         requires { IsSheet sheet.old }
@@ -337,7 +338,7 @@ impl Store {
         Ok(true)
     }
 
-    // Writes on a sheet what a register has. False where it can't: nothing is done then.
+    /// Writes on a sheet what a register has. False where it can't: nothing is done then.
     #[inline(always)]
     pub fn write_on(&self, r: u32, sheet: &mut Sheet) -> bool
         requires { IsSheet sheet.old }
@@ -353,8 +354,8 @@ impl Store {
         }
     }
 
-    // Does on a sheet an effect that is no deed of its own. False where it can't be done there:
-    // nothing is done then.
+    /// Does on a sheet an effect that is no deed of its own. False where it can't be done there:
+    /// nothing is done then.
     pub fn perform_on(&mut self, effect: &Effect, sheet: &mut Sheet) -> Result<bool, Memory>
         requires registers { HasRegisters (length self.old.registers) effect.now }
         requires sheet { IsSheet sheet.old }
@@ -379,7 +380,7 @@ impl Store {
         }
     }
 
-    // Hands on what is on a sheet: its bytes are written, and what was opened there is opened.
+    /// Hands on what is on a sheet: its bytes are written, and what was opened there is opened.
     pub fn hand_on(&mut self, sheet: &Sheet, out: &mut Vec<u8>) -> Result<(), Memory>
         requires { IsSheet sheet.now }
         ensures { OnOk result (state_of out.new.items self.new

@@ -13,7 +13,7 @@ use kex_code::memory::Memory;
 use kex_code::symbol::Symbol;
 use kex_machine::{Bit, MNode, Trimmed};
 
-// Where a walk along symbols has come, and how many were followed.
+/// Where a walk along symbols has come, and how many were followed.
 #[derive(Drop)]
 pub struct Walked {
     pub at: u32,
@@ -124,7 +124,7 @@ fn step(
     Ok(Some(next))
 }
 
-// Follows the symbols as far as there are steps for them.
+/// Follows the symbols as far as there are steps for them.
 pub fn follow(
     machine: &Trimmed,
     from: u32,
@@ -151,7 +151,7 @@ pub fn follow(
     })
 }
 
-// The node to which a walk without a symbol leads.
+/// The node to which a walk without a symbol leads.
 pub fn rest_of(machine: &Trimmed, from: u32) -> u32
     requires { from < length machine.now.nodes }
     ensures leads { ReachesSilently machine.now.nodes from result }
@@ -170,7 +170,7 @@ pub fn rest_of(machine: &Trimmed, from: u32) -> u32
     unreachable!()
 }
 
-// Whether a node is the end.
+/// Whether a node is the end.
 pub fn is_end(node: &MNode) -> bool
     ensures { IsTrue result ↔ (move_of (Some node.now) ≡ accept) }
 {

@@ -5,7 +5,7 @@
 //! `refine` says of which sets.
 #![tactic(auto)]
 
-ghost use Rattle.std.specs.Prelude.{◌≡◌, ◌≤◌, ◌==◌, ◌&&◌, ◌||◌, Bool, List, get_or, set, replicate};
+ghost use Rattle.std.specs.Prelude.{◌≡◌, ◌≤◌, ◌==◌, ◌&&◌, ◌||◌, Bool, List, set, replicate};
 ghost use Rattle.std.specs.Prelude.{false, true, not, nat_le, count_by};
 ghost use Rattle.std.specs.List.{list_any};
 ghost use Rattle.kex_byteset.specs.Sets.{HasExactly, has};

@@ -1,5 +1,5 @@
 -- Courses along a text, byte by byte and stretch by stretch.
-use Rattle.std.proofs.Common.{◌≡◌, ℕ, zero, suc, ◌+◌, ◌<◌, ◌≤◌, List, [], ◌∷◌, ◌++◌, ⊎_elim, Option, Some, None, length, get_or, map, take, drop, refl, sym, ap, ap₂, subst, ◌∙◌, arith}
+use Rattle.std.proofs.Common.{◌≡◌, ℕ, zero, suc, ◌+◌, ◌<◌, ◌≤◌, List, [], ◌∷◌, ◌++◌, ⊎_elim, Option, Some, None, length, get_or, take, drop, refl, sym, ap, subst, ◌∙◌, arith}
 use Rattle.std.specs.Prelude.{slice_get}
 use Rattle.std.proofs.lemmas.List.{take_more, drop_more, take-append-drop, length-take-le}
 use Rattle.std.proofs.lemmas.Option.{get_or_from_slice_get}
@@ -9,10 +9,10 @@ use Rattle.kex_sst.specs.declared.summary.Course.{Course}
 use Rattle.kex_sst.specs.declared.summary.Course.TheVariants.{Gone, Goes}
 use Rattle.kex_sst.specs.declared.table.Transition.{Transition}
 use Rattle.kex_sst.specs.Parts.{Change}
-use Rattle.kex_sst.specs.Tables.{Row, Transducer, IsTable, transition_of}
+use Rattle.kex_sst.specs.Tables.{Transducer, IsTable, transition_of}
 use Rattle.kex_sst.specs.Passes.{next_of}
 use Rattle.kex_sst.specs.Series.{then_update, with_read}
-use Rattle.kex_sst.specs.Summaries.{IsCourseOf, next_course_by, course_along, course_of, courses_from, then_by}
+use Rattle.kex_sst.specs.Summaries.{IsCourseOf, next_course_by, course_along, course_of, courses_from}
 use Rattle.kex_sst.proofs.Passes.{by_class}
 use Rattle.kex_sst.proofs.Courses.{along_gone, along_more, course_at, course_in_range, courses_count, in_range}
 use Rattle.kex_chunks.specs.declared.stretches.Stretch.{Stretch}

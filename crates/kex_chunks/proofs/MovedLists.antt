@@ -1,5 +1,5 @@
 -- Lists of parts that are moved from one update to the next.
-use Rattle.std.proofs.Common.{◌≡◌, ℕ, zero, suc, ◌+◌, ◌<◌, ◌≤◌, ◌≢◌, List, [], ◌∷◌, ◌++◌, ◌⊎◌, inl, inr, ⊎_elim, Some, length, get_or, map, take, drop, refl, sym, ap, ap₂, subst, ◌∙◌, append_assoc, append-nil, arith}
+use Rattle.std.proofs.Common.{◌≡◌, ℕ, zero, suc, ◌+◌, ◌<◌, ◌≤◌, List, [], ◌∷◌, ◌++◌, ◌⊎◌, inl, inr, ⊎_elim, Some, length, get_or, map, take, drop, refl, sym, ap, ap₂, subst, ◌∙◌, append_assoc, append-nil, arith}
 use Rattle.std.specs.Prelude.{slice_get}
 use Rattle.std.proofs.Math.ListN.{set}
 use Rattle.std.proofs.lemmas.List.{take_more, drop_more, get_or_past, map-append}
@@ -10,7 +10,7 @@ use Rattle.kex_sst.specs.declared.parts.Part.{Part}
 use Rattle.kex_sst.specs.declared.parts.Part.TheVariants.{Put, Old, Input}
 use Rattle.kex_sst.specs.Parts.{olds, olds_in}
 use Rattle.kex_sst.specs.Series.{read_parts, substitute, olds_from}
-use Rattle.kex_sst.proofs.Courses.{substitute-append, olds-append, different_left, different_right, different_apart}
+use Rattle.kex_sst.proofs.Courses.{olds-append, different_left, different_right, different_apart}
 
 -- what parts stand for, in two steps
 pub substitute_both : (regs : List (List Part)) (b : ℕ) (xs ys : List Part) → substitute regs (read_parts b (xs ++ ys)) ≡ substitute regs (read_parts b xs) ++ substitute regs (read_parts b ys)

@@ -1,5 +1,5 @@
 -- Summaries that are put one after the other.
-use Rattle.std.proofs.Common.{◌≡◌, ℕ, zero, suc, ◌+◌, ◌<◌, ◌≤◌, List, [], ◌∷◌, ◌++◌, inl, inr, ⊎_elim, Option, Some, None, length, get_or, map, take, drop, refl, sym, ap, ap₂, subst, ◌∙◌, append_assoc, append-nil, arith}
+use Rattle.std.proofs.Common.{◌≡◌, ℕ, zero, suc, ◌+◌, ◌<◌, ◌≤◌, List, [], ◌∷◌, ◌++◌, inl, inr, ⊎_elim, Option, Some, None, length, get_or, map, take, drop, refl, sym, ap, subst, ◌∙◌, append_assoc, append-nil, arith}
 use Rattle.std.specs.Prelude.{slice_get}
 use Rattle.std.proofs.lemmas.Option.{slice_get_read}
 use Rattle.std.proofs.Math.ListN.{drop_of_length-le, set}
@@ -15,7 +15,7 @@ use Rattle.kex_sst.specs.Parts.{Change, EachPart}
 use Rattle.kex_sst.specs.Tables.{Transducer, IsTable}
 use Rattle.kex_sst.specs.Series.{substitute, then_update, ReadsNothing}
 use Rattle.kex_sst.specs.Summaries.{IsCourseOf, IsSum, Sum, courses_from, sum_of, then_by, then_of, then_sum}
-use Rattle.kex_sst.proofs.Courses.{determined, some_below}
+use Rattle.kex_sst.proofs.Courses.{determined}
 use Rattle.kex_chunks.specs.Parts.{AreSummaries}
 use Rattle.kex_chunks.proofs.Alongs.{item_at}
 

@@ -2,9 +2,8 @@
 
 ghost use Rattle.std.specs.Prelude.{◌≡◌, ◌+◌, ◌-◌, ◌*◌, ◌/◌, ◌%◌, ◌<◌, ◌≤◌, ◌^◌, [], IfOk, OnOk};
 ghost use Rattle.std.specs.Prelude.{IsTrue, IsOk, min};
-ghost use Rattle.std.specs.Prelude.{Some, ◌∷◌, ◌↔◌, true, false, length};
+ghost use Rattle.std.specs.Prelude.{Some, ◌∷◌, ◌↔◌, false, length};
 ghost use Rattle.std.specs.Thread.{IsSync};
-ghost use Rattle.kex_sst.specs.Summaries.{sum_of};
 ghost use Rattle.kex_runner.specs.Running.{RunnerFeeds};
 ghost use Rattle.kex_chunks.specs.Parts.{AreSummaries};
 

@@ -1,6 +1,6 @@
 // Summaries of texts.
 
-ghost use Rattle.std.specs.Prelude.{◌≡◌, ◌<◌, ◌≤◌, ◌+◌, ◌^◌, ◌++◌, ℕ, List, IfOk, OnOk, Some};
+ghost use Rattle.std.specs.Prelude.{◌≡◌, ◌<◌, ◌+◌, ◌^◌, ◌++◌, ℕ, List, IfOk, OnOk, Some};
 ghost use Rattle.std.specs.Prelude.{length, map, slice_get};
 ghost use Rattle.kex_sst.specs.Tables.{IsTable, Transducer};
 ghost use Rattle.kex_sst.specs.Summaries.{IsCourseOf, courses_from, sum_of, then_by, then_of};

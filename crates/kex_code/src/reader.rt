@@ -1,6 +1,6 @@
 // Codes from their text, as its bytes come.
 
-ghost use Rattle.std.specs.Prelude.{◌≡◌, ◌<◌, ◌≤◌, ◌+◌, ◌^◌, ◌++◌, ◌∷◌, [], ℕ, List, length};
+ghost use Rattle.std.specs.Prelude.{◌≡◌, ◌<◌, ◌≤◌, ◌+◌, ◌^◌, ◌∷◌, [], ℕ, List, length};
 ghost use Rattle.std.specs.Prelude.{IfSome, IfNone, OnOk, IfErr, IsTrue, ◌↔◌, true, false};
 ghost use Rattle.std.specs.Char.{digit_char};
 ghost use Rattle.kex_code.specs.declared.symbol.Symbol.{Symbol};
@@ -44,7 +44,7 @@ impl From<Memory> for CodeError {
     }
 }
 
-// What is begun of a symbol's text: nothing, the quote, or the quote and the digit of a value.
+/// What is begun of a symbol's text: nothing, the quote, or the quote and the digit of a value.
 #[derive(Clone, Copy)]
 pub enum Begun {
     Nothing,
@@ -52,7 +52,7 @@ pub enum Begun {
     Digit(u8),
 }
 
-// What a byte makes of it.
+/// What a byte makes of it.
 #[derive(Clone, Copy)]
 pub enum ReaderStep {
     Open(Begun),

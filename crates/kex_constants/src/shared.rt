@@ -53,7 +53,7 @@ pub fn is_same(left: &Option<Choices>, right: &Option<Choices>) -> bool
     }
 }
 
-// Whether the same is known of all registers.
+/// Whether the same is known of all registers.
 pub fn are_same(left: &[Option<Choices>], right: &[Option<Choices>]) -> bool
     ensures { result ≡ true → left.now ≡ right.now }
 {

@@ -1,7 +1,7 @@
 // What is left of path trees where the leaves that others cover are left out.
 
-ghost use Rattle.std.specs.Prelude.{◌≡◌, ℕ, ◌<◌, ◌≤◌, List, [], ◌∷◌, Some, OnOk, IfOk, IfErr};
-ghost use Rattle.std.specs.Prelude.{MatchBool, length, slice_get, get_or, false};
+ghost use Rattle.std.specs.Prelude.{◌≡◌, ℕ, ◌<◌, List, OnOk, IfOk, IfErr};
+ghost use Rattle.std.specs.Prelude.{length, false};
 ghost use Rattle.kex_model.specs.Labelled.{Shape};
 ghost use Rattle.kex_model.specs.States.{AllDifferent};
 ghost use Rattle.kex_determine.specs.Determined.{AreStateTrees};

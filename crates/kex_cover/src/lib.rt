@@ -19,7 +19,7 @@ mod rows;
 mod search;
 mod sets;
 
-ghost use Rattle.std.specs.Prelude.{◌≡◌, ℕ, ◌<◌, ◌≤◌, ◌∷◌, [], IfOk, OnOk, IfErr, MatchBool};
+ghost use Rattle.std.specs.Prelude.{ℕ, ◌<◌, ◌≤◌, ◌∷◌, [], IfOk, OnOk, IfErr, MatchBool};
 ghost use Rattle.std.specs.Prelude.{length};
 ghost use Rattle.kex_model.specs.States.{HasStates};
 ghost use Rattle.kex_machine.specs.Nodes.{node_moves};

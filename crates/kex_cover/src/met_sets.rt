@@ -1,12 +1,12 @@
 // The sets of waiting places that were met, by number, and where they lead by bytes.
 
-ghost use Rattle.std.specs.Prelude.{◌≡◌, ℕ, ◌<◌, Bool, List, [], Some, None, OnOk, IfOk, MatchBool};
+ghost use Rattle.std.specs.Prelude.{◌≡◌, ℕ, ◌<◌, List, [], Some, None, OnOk, IfOk, MatchBool};
 ghost use Rattle.std.specs.Prelude.{length, replicate, set, slice_get};
 ghost use Rattle.kex_code.specs.Codes.{Begins};
 ghost use Rattle.kex_model.specs.Moves.{accept};
 ghost use Rattle.kex_machine.specs.Nodes.{move_of};
 ghost use Rattle.kex_cover.specs.Pairs.{IsPlaceSetOf};
-ghost use Rattle.kex_cover.specs.Searches.{AreClassBytes, AreListedTo, AreSetsMet, AreWaiting};
+ghost use Rattle.kex_cover.specs.Searches.{AreListedTo, AreSetsMet, AreWaiting};
 ghost use Rattle.kex_cover.specs.Searches.{AreWithin, HasEnd, IsWayTo, met_sets};
 
 use crate::numbers::number;

@@ -1,6 +1,6 @@
 // Lists by number, each once.
 
-ghost use Rattle.std.specs.Prelude.{◌≡◌, [], Some, OnOk, IfOk, MatchBool, slice_get};
+ghost use Rattle.std.specs.Prelude.{◌≡◌, Some, OnOk, IfOk, MatchBool, slice_get};
 ghost use Rattle.kex_code.specs.Codes.{IsAmong};
 ghost use Rattle.kex_determine.specs.Numbering.{texts, IsAdded};
 

@@ -1,6 +1,6 @@
 // The rows of a table, made from what is left of its states' trees.
 
-ghost use Rattle.std.specs.Prelude.{◌≡◌, ℕ, ◌<◌, Bool, List, Some, IfOk, length, get_or, slice_get};
+ghost use Rattle.std.specs.Prelude.{◌≡◌, ℕ, ◌<◌, Some, IfOk, length, get_or};
 ghost use Rattle.std.specs.Prelude.{false};
 ghost use Rattle.kex_byteset.specs.Classes.{class_at, class_count};
 ghost use Rattle.kex_model.specs.Labelled.{Shape};

@@ -1,6 +1,6 @@
 // The search over pairs: what each leads to by a byte of each class.
 
-ghost use Rattle.std.specs.Prelude.{◌≡◌, ℕ, ◌<◌, ◌≤◌, ◌∷◌, [], Some, OnOk, IfOk, IfErr, IfSome};
+ghost use Rattle.std.specs.Prelude.{◌≡◌, ℕ, ◌<◌, ◌∷◌, [], Some, OnOk, IfOk, IfErr, IfSome};
 ghost use Rattle.std.specs.Prelude.{MatchBool, MatchOption, length, slice_get};
 ghost use Rattle.kex_code.specs.Codes.{Begins, IsAmong};
 ghost use Rattle.kex_cover.specs.Keeping.{HasPairsUpTo};

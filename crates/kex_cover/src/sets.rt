@@ -1,8 +1,8 @@
 // Sets of waiting places, as lists that fall.
 
-ghost use Rattle.std.specs.Prelude.{◌≡◌, ◌<◌, ◌/◌, ◌↔◌, IsTrue, IfOk, OnOk, length};
+ghost use Rattle.std.specs.Prelude.{◌≡◌, ◌<◌, ◌/◌, ◌↔◌, IsTrue, IfOk, length};
 ghost use Rattle.kex_model.specs.Moves.{IsWaiting};
-ghost use Rattle.kex_machine.specs.Nodes.{Graph, move_of};
+ghost use Rattle.kex_machine.specs.Nodes.{move_of};
 ghost use Rattle.kex_cover.specs.Pairs.{ArePlacesAfter, IsPlaceSetOf};
 ghost use Rattle.kex_cover.specs.Searches.{AreWaiting, AreWithin, HaveRoom, IsListOf, AreMarksOf};
 

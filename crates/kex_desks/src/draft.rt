@@ -1,6 +1,6 @@
 // A draft of a part: what a worker makes of it that begins where another may come to.
 
-ghost use Rattle.std.specs.Prelude.{◌≡◌, ◌≤◌, ◌<◌, ◌+◌, ◌-◌, ◌^◌, true, IsTrue, IfOk, length};
+ghost use Rattle.std.specs.Prelude.{◌≡◌, ◌≤◌, ◌<◌, ◌+◌, ◌-◌, ◌^◌, IsTrue, IfOk, length};
 ghost use Rattle.kex_desks.specs.Drafts.{IsPartDraft};
 
 use crate::parts::PartBounds;

@@ -21,6 +21,7 @@ pub struct Trust {
 }
 
 impl Trust {
+    /// Nothing was tried yet.
     pub fn new() -> Trust
         ensures { result ≡ record {
           missed = 0;

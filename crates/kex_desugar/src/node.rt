@@ -1,6 +1,6 @@
 // The nodes of a machine.
 
-ghost use Rattle.std.specs.Prelude.{◌≡◌, ℕ, ◌≤◌, length, IfOk, OnOk, IfErr};
+ghost use Rattle.std.specs.Prelude.{ℕ, ◌≤◌, length, IfOk, OnOk, IfErr};
 ghost use Rattle.kex_code.specs.Codes.{Begins};
 ghost use Rattle.kex_desugar.specs.Machines.{HasMore, IsTooMany};
 ghost use Rattle.kex_desugar.specs.Plans.{MapHasRoots};

@@ -15,7 +15,7 @@ use kex_machine::Effect;
 use kex_model::frame::Frame;
 use kex_model::program::{Kind, Program};
 
-// What is put on the rest of a place: nothing, a frame, or two, the upper first.
+/// What is put on the rest of a place: nothing, a frame, or two, the upper first.
 #[derive(Clone, Copy)]
 pub enum Way {
     Rest,
@@ -23,7 +23,7 @@ pub enum Way {
     Both(Frame, Frame),
 }
 
-// What a place does, and what it puts on its rest.
+/// What a place does, and what it puts on its rest.
 #[derive(Drop)]
 pub enum NodePlan {
     Take(ByteSet),

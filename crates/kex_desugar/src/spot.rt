@@ -13,7 +13,7 @@ use crate::refusal::DesugarRefusal;
 use indexmap::IndexSet;
 use kex_model::frame::Frame;
 
-// What a number stands for: the empty place, or a frame on the place of another number.
+/// What a number stands for: the empty place, or a frame on the place of another number.
 #[derive(Clone, Copy, PartialEq, Eq, Hash)]
 pub enum Spot {
     Empty,

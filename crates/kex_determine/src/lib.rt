@@ -10,7 +10,7 @@ pub mod refusal;
 mod rows;
 mod states;
 
-ghost use Rattle.std.specs.Prelude.{◌≡◌, ◌<◌, ◌≤◌, OnOk, IfOk, IfErr, length};
+ghost use Rattle.std.specs.Prelude.{◌<◌, ◌≤◌, IfOk, IfErr, length};
 ghost use Rattle.kex_model.specs.States.{HasStates, HasMoreStates};
 ghost use Rattle.kex_machine.specs.Nodes.{node_moves};
 ghost use Rattle.kex_sst.specs.Machines.{IsTableOf};

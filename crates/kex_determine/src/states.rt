@@ -4,7 +4,6 @@ ghost use Rattle.std.specs.Prelude.{◌≡◌, ℕ, ◌<◌, ◌≤◌, List, []
 ghost use Rattle.std.specs.Prelude.{length, slice_get};
 ghost use Rattle.kex_model.specs.Labelled.{Shape};
 ghost use Rattle.kex_machine.specs.Nodes.{Graph};
-ghost use Rattle.kex_paths.specs.Nexts.{Outline};
 ghost use Rattle.kex_determine.specs.Numbering.{texts, IsAdded, AreNumbered, IsMet, IsWith};
 ghost use Rattle.kex_determine.specs.Numbering.{Refuses, HasMoreFound, IsMetIf, IsFollowed};
 

@@ -39,6 +39,7 @@ fn begin_of(ends: &[usize], index: usize) -> usize
 }
 
 impl Texts {
+    /// No texts.
     pub fn new(alloc: Global) -> Texts
         ensures { result ≡ [] }
     {
@@ -48,6 +49,7 @@ impl Texts {
         }
     }
 
+    /// How many there are.
     pub fn len(&self) -> usize
         ensures { result ≡ length self.now }
     {

@@ -1,6 +1,6 @@
 // The oracle of a stage.
 
-ghost use Rattle.std.specs.Prelude.{◌≡◌, ℕ, ◌++◌, ◌∷◌, [], List, IfOk, OnOk, OnErr, IsTrue, IsOk};
+ghost use Rattle.std.specs.Prelude.{◌≡◌, ℕ, ◌++◌, ◌∷◌, [], List, IfOk, OnOk, IsTrue, IsOk};
 ghost use Rattle.std.specs.Prelude.{true, false, length, ◌↔◌};
 ghost use Rattle.kex_code.specs.declared.symbol.Symbol.{Symbol};
 ghost use Rattle.kex_model.specs.Labelled.{Labelled};

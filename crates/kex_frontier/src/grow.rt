@@ -1,13 +1,13 @@
 // How a tree goes on with a byte, and with the end.
 
-ghost use Rattle.std.specs.Prelude.{◌≡◌, ℕ, ◌<◌, ◌++◌, ◌∷◌, [], List, Option, Some, None, OnOk};
-ghost use Rattle.std.specs.Prelude.{IfOk, MatchOption, IfSome, length, replicate, false};
+ghost use Rattle.std.specs.Prelude.{◌≡◌, ℕ, ◌<◌, ◌∷◌, [], List, Option, Some, None, OnOk};
+ghost use Rattle.std.specs.Prelude.{MatchOption, IfSome, length};
 ghost use Rattle.kex_code.specs.declared.symbol.Symbol.{Symbol};
 ghost use Rattle.kex_model.specs.Labelled.{Labelled, Grown, tip, with_prefix};
 ghost use Rattle.kex_model.specs.Moves.{Allows, took};
 ghost use Rattle.kex_machine.specs.Nodes.{node_moves};
 ghost use Rattle.kex_frontier.specs.Edges.{HasCodeTrees, as_is, edges_of, last_code_tree, IsTipIf};
-ghost use Rattle.kex_frontier.specs.Edges.{IsTreeBelow, is_there, root_label, bare_edges};
+ghost use Rattle.kex_frontier.specs.Edges.{IsTreeBelow};
 ghost use Rattle.kex_frontier.specs.Views.{edges_at};
 ghost use Rattle.kex_machine.specs.Advancing.{first_accepting};
 ghost use Rattle.kex_frontier.specs.Going.{AdvancesCodes, trees_at_end};

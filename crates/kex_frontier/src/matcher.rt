@@ -2,7 +2,6 @@
 
 ghost use Rattle.std.specs.Prelude.{◌≡◌, ℕ, ◌<◌, ◌≤◌, ◌+◌, ◌/◌, ◌^◌, ◌++◌, ◌∷◌, [], List, length};
 ghost use Rattle.std.specs.Prelude.{IfOk, IsTrue, ◌↔◌, take, true, false};
-ghost use Rattle.kex_code.specs.Codes.{IsAmong};
 ghost use Rattle.kex_model.specs.Moves.{accept, quiet};
 ghost use Rattle.kex_machine.specs.Nodes.{StaysWithin, MoveBelow, move_of, node_moves};
 ghost use Rattle.kex_machine.specs.Answers.{HasRun};

@@ -9,7 +9,7 @@ pub mod best_laws;
 pub mod laws;
 pub mod marks;
 
-ghost use Rattle.std.specs.Prelude.{◌≡◌, ℕ, ◌<◌, [], ◌∷◌, ◌++◌, List, Some, length};
+ghost use Rattle.std.specs.Prelude.{◌≡◌, ◌<◌, [], ◌∷◌, ◌++◌, List, Some, length};
 ghost use Rattle.kex_model.specs.Moves.{symbol_of};
 ghost use Rattle.kex_machine.specs.Nodes.{Graph, IsMachineInRange, IsTrimmed, HasClasses, side_of};
 ghost use Rattle.kex_machine.specs.Nodes.{move_of, node_moves};

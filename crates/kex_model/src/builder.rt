@@ -1,7 +1,7 @@
 // How a program is made: its nodes, one after another, and then the rest.
 
 ghost use Rattle.std.specs.Prelude.{◌≡◌, ◌<◌, ◌++◌, ◌∷◌, [], IfOk, OnErr, length};
-ghost use Rattle.kex_model.specs.Programs.{Grammar, HasBelow, IsInRange};
+ghost use Rattle.kex_model.specs.Programs.{HasBelow, IsInRange};
 
 use crate::program::{Definition, Node, Program, Start};
 use kex_code::memory::Memory;

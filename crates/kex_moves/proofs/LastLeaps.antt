@@ -1,6 +1,5 @@
 -- At the end of a text the table has said all, and the actor does what that does.
-use Rattle.std.proofs.Common.{◌≡◌, ℕ, IsTrue, List, ◌++◌, Some, refl, sym, ap, subst, ◌∙◌}
-use Rattle.kex_code.specs.declared.symbol.Symbol.{Symbol}
+use Rattle.std.proofs.Common.{◌≡◌, ℕ, IsTrue, List, Some, refl, sym, ap, subst, ◌∙◌}
 use Rattle.kex_action.specs.Actors.{Position, WentOn}
 use Rattle.kex_action.specs.declared.sheet.Sheet.{Sheet}
 use Rattle.kex_action.specs.Sheets.{IsBlank, state_with}

@@ -9,8 +9,8 @@ ghost use Rattle.kex_action.specs.Actors.{Position};
 ghost use Rattle.kex_action.specs.Sheets.{IsSheet, IsBlank, IsAsLong, with_buffer, state_with};
 ghost use Rattle.kex_moves.specs.declared.edge.EdgeKind.{EdgeKind};
 ghost use Rattle.kex_moves.specs.declared.edges.Pair.{Pair};
-ghost use Rattle.kex_moves.specs.Runs.{IsEdgeAt, StopsAt, run_of};
-ghost use Rattle.kex_moves.specs.Known.{rows_of, IsEdge, IsPairRow, HasRowFor, IsKnown, KnownGrows};
+ghost use Rattle.kex_moves.specs.Runs.{IsEdgeAt, StopsAt};
+ghost use Rattle.kex_moves.specs.Known.{IsEdge, IsPairRow, HasRowFor, IsKnown, KnownGrows};
 ghost use Rattle.kex_moves.specs.Along.{ReachedOn, GoesAlong, IsBareState};
 ghost use Rattle.kex_moves.specs.Along.{with_sheet, written_with};
 

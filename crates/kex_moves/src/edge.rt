@@ -38,7 +38,7 @@ impl EdgeKind {
     ghost use Rattle.std.specs.Prelude.{◌≡◌, IsTrue, ◌↔◌};
     ghost use Rattle.kex_moves.specs.Edges.{is_written};
 
-    // Whether an edge of the kind is followed in the loop.
+    /// Whether an edge of the kind is followed in the loop.
     #[inline(always)]
     pub fn is_written(self) -> bool
         ensures { result ≡ is_written self }
@@ -49,6 +49,7 @@ impl EdgeKind {
         }
     }
 
+    /// Whether text is put around the byte.
     #[inline(always)]
     pub fn is_text(self) -> bool
         ensures { IsTrue result ↔ (self ≡ EdgeKind.Text) }
@@ -56,6 +57,7 @@ impl EdgeKind {
         matches!(self, EdgeKind::Text)
     }
 
+    /// Whether the byte alone is written.
     #[inline(always)]
     pub fn is_keep(self) -> bool
         ensures { IsTrue result ↔ (self ≡ EdgeKind.Keep) }
@@ -63,6 +65,7 @@ impl EdgeKind {
         matches!(self, EdgeKind::Keep)
     }
 
+    /// Whether nothing is written.
     #[inline(always)]
     pub fn is_drop(self) -> bool
         ensures { IsTrue result ↔ (self ≡ EdgeKind.Drop) }
@@ -96,21 +99,21 @@ impl Edge {
         }
     }
 
-    // Nothing is learnt yet.
+    /// Nothing is learnt yet.
     pub fn unknown() -> Edge
         ensures { IsUnlearnt result }
     {
         Edge::silent(EdgeKind::Unknown)
     }
 
-    // A plain step is to be taken.
+    /// A plain step is to be taken.
     pub fn plain() -> Edge
         ensures { IsSilent result }
     {
         Edge::silent(EdgeKind::Plain)
     }
 
-    // The edge as it is in a row: it keeps or drops only where it leads back to the row.
+    /// The edge as it is in a row: it keeps or drops only where it leads back to the row.
     pub fn at_row(self, row: usize) -> Edge
         ensures at { IsAtRow row result }
         ensures same { (result ≡ self)

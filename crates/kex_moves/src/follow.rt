@@ -51,7 +51,7 @@ fn stay(
 }
 
 /// Goes along edges while they are written. A row has as many edges as its width.
-// Not inlined: within a long caller what the loop reads for each piece would be kept in memory.
+/// Not inlined: within a long caller what the loop reads for each piece would be kept in memory.
 #[inline(never)]
 pub fn follow(
     edges: &[Edge],

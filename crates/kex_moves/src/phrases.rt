@@ -1,6 +1,6 @@
 // What the words of a list do at the nodes of a machine.
 
-ghost use Rattle.std.specs.Prelude.{◌≡◌, ◌≤◌, ◌^◌, false, IsTrue, IfOk, OnOk};
+ghost use Rattle.std.specs.Prelude.{◌≡◌, false, IsTrue, IfOk, OnOk};
 ghost use Rattle.kex_script.specs.Pieces.{code_over};
 ghost use Rattle.kex_moves.specs.Speech.{PerformsSaid, RefusesCode};
 

@@ -5,8 +5,8 @@ ghost use Rattle.kex_moves.specs.Edges.{writes, HasRoom};
 
 use crate::edge::Edge;
 
-// Writes what the edge writes after the first `used` bytes. What it writes past them doesn't
-// count.
+/// Writes what the edge writes after the first `used` bytes. What it writes past them doesn't
+/// count.
 #[inline(always)]
 pub fn put(buffer: &mut [u8], used: usize, byte: u8, text: &[u8], e: Edge)
     requires room { used + 17 ≤ length buffer.old }

@@ -1,7 +1,7 @@
 // A word symbol by symbol, where no edge is known.
 
 ghost use Rattle.std.specs.Prelude.{◌≡◌, ◌++◌, [], false, IfOk, OnOk, IsTrue, take};
-ghost use Rattle.kex_sst.specs.Parts.{value, parts_code};
+ghost use Rattle.kex_sst.specs.Parts.{value};
 ghost use Rattle.kex_script.specs.Pieces.{word_code};
 ghost use Rattle.kex_action.specs.Actors.{TookAll};
 ghost use Rattle.kex_moves.specs.Speech.{RefusesCode};

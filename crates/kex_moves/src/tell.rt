@@ -1,7 +1,7 @@
 // Byte words along edges with the actor, while new edges are learnt.
 
 ghost use Rattle.std.specs.Prelude.{◌≡◌, ◌<◌, ◌≤◌, ◌+◌, ◌*◌, ℕ, List, [], ◌∷◌, IsTrue, IfOk, OnOk};
-ghost use Rattle.std.specs.Prelude.{false, length, take, drop};
+ghost use Rattle.std.specs.Prelude.{false, length, take};
 ghost use Rattle.kex_sst.specs.declared.parts.Part.{Part};
 ghost use Rattle.kex_action.specs.Actors.{Position};
 ghost use Rattle.kex_action.specs.Sheets.{IsSheet, IsBlank, IsAsLong};

@@ -18,6 +18,7 @@ pub struct Watch {
 }
 
 impl Watch {
+    /// No stage was in yet.
     pub fn new() -> Watch {
         Watch {
             entered: AtomicU32::new(0),

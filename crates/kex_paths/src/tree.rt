@@ -1,6 +1,6 @@
 // Path trees, and how one is made of what a walk leaves.
 
-ghost use Rattle.std.specs.Prelude.{◌≡◌, ℕ, ◌*◌, ◌<◌, ◌≤◌, ◌^◌, ◌↔◌, ◌∷◌, ◌++◌, [], List, Some};
+ghost use Rattle.std.specs.Prelude.{◌≡◌, ℕ, ◌*◌, ◌<◌, ◌≤◌, ◌^◌, ◌↔◌, ◌∷◌, ◌++◌, [], Some};
 ghost use Rattle.std.specs.Prelude.{IsTrue, OnOk, IfOk, length, slice_get};
 ghost use Rattle.kex_model.specs.Labelled.{Grown, Shape, labels_of, shape_of, size_of};
 ghost use Rattle.kex_machine.specs.Nodes.{node_moves};

@@ -1,8 +1,7 @@
 // The updates that labels by number are.
 
-ghost use Rattle.std.specs.Prelude.{◌≡◌, ℕ, List, IfOk, true};
-ghost use Rattle.kex_sst.specs.declared.parts.Part.{Part};
-ghost use Rattle.kex_paths.specs.Updates.{AreLabels, HasLists, IsUpdateOf};
+ghost use Rattle.std.specs.Prelude.{◌≡◌, IfOk, true};
+ghost use Rattle.kex_paths.specs.Updates.{HasLists, IsUpdateOf};
 
 use crate::forest::PathEdges;
 use indexmap::IndexMap;

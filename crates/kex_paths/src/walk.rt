@@ -7,7 +7,7 @@ ghost use Rattle.kex_model.specs.Labelled.{Grown};
 ghost use Rattle.kex_machine.specs.Nodes.{node_moves, StaysWithin};
 ghost use Rattle.kex_sst.specs.declared.parts.Part.{Part};
 ghost use Rattle.kex_paths.specs.Alikes.{LeadAlikeAt};
-ghost use Rattle.kex_paths.specs.Forests.{HasTrees, last_tree};
+ghost use Rattle.kex_paths.specs.Forests.{HasTrees};
 ghost use Rattle.kex_paths.specs.Tasks.{ShapedTask, task_of, tokens_left, RunsTasks, tasks_from};
 ghost use Rattle.kex_paths.specs.Tasks.{leaf_at, IsTipBelow, token_tasks, token_dead, read_tasks};
 ghost use Rattle.kex_paths.specs.Tasks.{read_dead, place_tasks, place_trees, EachTip, IsTaskBelow};

@@ -1,12 +1,11 @@
 // What the walks of path trees use again and again.
 
-ghost use Rattle.std.specs.Prelude.{◌≡◌, ℕ, ◌<◌, List, Some, None, Option, IfOk, IfSome, OnOk};
+ghost use Rattle.std.specs.Prelude.{◌≡◌, ℕ, ◌<◌, Some, None, Option, IfOk, IfSome};
 ghost use Rattle.std.specs.Prelude.{MatchOption, length};
-ghost use Rattle.kex_byteset.specs.Classes.{IsNumbered};
 ghost use Rattle.kex_model.specs.Labelled.{Shape};
 ghost use Rattle.kex_machine.specs.Nodes.{node_moves, IsTrimmed};
 ghost use Rattle.kex_machine.specs.Advancing.{LeadAlike};
-ghost use Rattle.kex_paths.specs.Nexts.{Outline, IsOfShape, HasClass, IsNext, FollowsTree};
+ghost use Rattle.kex_paths.specs.Nexts.{IsOfShape, HasClass, IsNext, FollowsTree};
 ghost use Rattle.kex_paths.specs.Spellings.{IsTreeSound};
 ghost use Rattle.kex_paths.specs.Workspaces.{AreSamples, ReachesTree};
 

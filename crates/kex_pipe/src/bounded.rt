@@ -1,7 +1,7 @@
 // A worker within a limit, as a stage.
 
 ghost use Rattle.std.specs.Prelude.{◌≡◌, ◌≤◌, ◌||◌, not, true, false, IfOk, OnOk, IsTrue, Option};
-ghost use Rattle.std.specs.Prelude.{All, None, ℕ, List, length, min, take, vec_len};
+ghost use Rattle.std.specs.Prelude.{All, None, length, min, take, vec_len};
 ghost use Rattle.kex_pipe.specs.Histories.{StageFed};
 ghost use Rattle.kex_pipe.specs.Bounds.{StandsAs, end_stop, fate_of, stop_after};
 

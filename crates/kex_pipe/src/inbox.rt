@@ -1,7 +1,7 @@
 // What waits between two stages.
 
-ghost use Rattle.std.specs.Prelude.{◌≡◌, ◌≤◌, ◌&&◌, ◌++◌, ◌∷◌, ◌↔◌, ◌⊎◌, [], List, ℕ, true, false};
-ghost use Rattle.std.specs.Prelude.{IsTrue, OnOk, OnErr, not, nat_lt, length, take, drop, map};
+ghost use Rattle.std.specs.Prelude.{◌≡◌, ◌≤◌, ◌&&◌, ◌++◌, ◌↔◌, ◌⊎◌, [], true, false};
+ghost use Rattle.std.specs.Prelude.{IsTrue, OnOk, OnErr, not, nat_lt, length, take, drop};
 
 use kex_code::memory::Memory;
 use std::alloc::Global;
@@ -22,6 +22,7 @@ pub struct Inbox {
 impl Inbox {
     ghost use Rattle.kex_pipe.specs.Waiting.{unread_bytes, waiting_items};
 
+    /// Nothing waits.
     pub fn new(alloc: Global) -> Inbox
         ensures bytes { unread_bytes result ≡ [] }
         ensures open { result.ended ≡ false }
@@ -33,6 +34,7 @@ impl Inbox {
         }
     }
 
+    /// Whether nothing waits.
     pub fn is_empty(&self) -> bool
         ensures { IsTrue result ↔ ((unread_bytes self.now ≡ []) × (self.now.ended ≡ false)) }
     {

@@ -2,7 +2,7 @@
 
 ghost use Rattle.std.specs.Prelude.{◌≡◌, ◌≢◌, ◌+◌, ◌<◌, ◌⊎◌, Bool, IsPermutation, OnErr, suc, ◌≤◌};
 ghost use Rattle.std.specs.Prelude.{◌^◌, ◌↔◌, ◌++◌, ◌∷◌, [], List, ℕ, true, false, IsTrue, IfOk};
-ghost use Rattle.std.specs.Prelude.{OnOk, is_ok, is_err, Some, None, All, map, length, vec_len};
+ghost use Rattle.std.specs.Prelude.{OnOk, is_err, None, All, map, length, vec_len};
 ghost use Rattle.std.specs.List.{range_with_len};
 ghost use Rattle.kex_model.specs.Answers.{Pipeline};
 ghost use Rattle.kex_model.specs.Schedules.{Event, give, give_end, turn, Settled};

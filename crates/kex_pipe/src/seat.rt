@@ -1,8 +1,6 @@
 // A stage in its seat, with what lies before and after it.
 
-ghost use Rattle.std.specs.Prelude.{◌≡◌, ◌&&◌, ◌⊎◌, ℕ, Bool, true, false, IsTrue, OnOk, is_ok};
-ghost use Rattle.std.specs.Prelude.{drop, length};
-ghost use Rattle.kex_pipe.specs.Waiting.{waiting_items};
+ghost use Rattle.std.specs.Prelude.{◌≡◌, ◌&&◌, true, false, IsTrue, OnOk, is_ok};
 
 use crate::inbox::Inbox;
 use crate::staged::Staged;

@@ -1,7 +1,7 @@
 // A stage that takes its turns.
 
-ghost use Rattle.std.specs.Prelude.{◌≡◌, ◌++◌, ℕ, List, [], Bool, Option, true, false, IsTrue};
-ghost use Rattle.std.specs.Prelude.{OnOk, OnErr, is_ok, take, drop};
+ghost use Rattle.std.specs.Prelude.{◌≡◌, ◌++◌, List, [], Option, true, false, IsTrue};
+ghost use Rattle.std.specs.Prelude.{OnOk, OnErr, is_ok, drop};
 ghost use Rattle.kex_model.specs.Schedules.{StreamItem};
 ghost use Rattle.kex_model.specs.Schedules as schedule;
 ghost use Rattle.kex_pipe.specs.Histories.{StageFed, bytes_fed, ended_of};

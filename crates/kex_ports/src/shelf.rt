@@ -1,5 +1,5 @@
 // Texts by name.
-ghost use Rattle.std.specs.Prelude.{◌≡◌, ◌≤◌, ◌∷◌, [], ℕ, List, Option, Some, IfOk, OnOk, OnErr};
+ghost use Rattle.std.specs.Prelude.{◌≡◌, ◌≤◌, ◌∷◌, [], ℕ, Option, Some, IfOk, OnOk, OnErr};
 ghost use Rattle.std.specs.Prelude.{IsErrOf, option_map, length, map, string_bytes};
 ghost use Rattle.kex_ports.specs.Calls.{none_made};
 ghost use Rattle.kex_ports.specs.InMemory.{HasTaken};

@@ -157,6 +157,7 @@ impl Model for NeverFailsSource {
 }
 
 impl NeverFailsSource {
+    /// Of these bytes, none of which was read.
     pub fn new(bytes: Vec<u8>) -> Self
         ensures { result ≡ bytes.items }
     {

@@ -1,9 +1,9 @@
 // What is made of a text.
 
-ghost use Rattle.std.specs.Prelude.{◌≡◌, ℕ, ◌+◌, ◌<◌, ◌^◌, ◌++◌, ◌∷◌, [], List, length, None, Some};
+ghost use Rattle.std.specs.Prelude.{◌≡◌, ◌+◌, ◌<◌, ◌^◌, ◌++◌, ◌∷◌, [], List, length, None, Some};
 ghost use Rattle.std.specs.Prelude.{IfOk, IfSome, IfNone, OnOk};
 ghost use Rattle.kex_code.specs.Codes.{Different, IsAmong};
-ghost use Rattle.kex_model.specs.Programs.{Grammar, HasBelow, HasNames, IsInRange};
+ghost use Rattle.kex_model.specs.Programs.{HasBelow, HasNames};
 ghost use Rattle.kex_regexp.specs.Bodies.{SpellsRegex, fault_of};
 ghost use Rattle.kex_regexp.specs.Grammar.{Regex};
 ghost use Rattle.kex_regexp.specs.Notes.{lesser_of};

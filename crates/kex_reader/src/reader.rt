@@ -7,12 +7,12 @@ ghost use Rattle.kex_reader.specs.Holding.{EndLosesNone, FinishLosesNone, InPhas
 ghost use Rattle.kex_reader.specs.Holding.{IsBehindState, ReaderEnds, ReaderFinishes};
 ghost use Rattle.kex_reader.specs.Holding.{ReaderLosesNone, ReaderShows, ReaderSteps};
 ghost use Rattle.kex_reader.specs.Holding.{WithinDefinition, whole_term};
-ghost use Rattle.kex_reader.specs.Reading.{Entry, Inside, State, entries, with_pre, Within};
+ghost use Rattle.kex_reader.specs.Reading.{Entry, State, entries, with_pre, Within};
 ghost use Rattle.kex_reader.specs.Reading.{finish as spec_finish};
 ghost use Rattle.kex_reader.specs.Reading.{finish_within as spec_finish_within, first_name};
-ghost use Rattle.kex_reader.specs.Reading.{FirstName, words_read, step as spec_step, step_within};
+ghost use Rattle.kex_reader.specs.Reading.{FirstName, step as spec_step, step_within};
 ghost use Rattle.kex_reader.specs.Reading.{take_term};
-ghost use Rattle.kex_reader.specs.Shown.{IsName, ShowsAtom};
+ghost use Rattle.kex_reader.specs.Shown.{IsName};
 ghost use Rattle.kex_reader.specs.Asked.{state_asks};
 ghost use Rattle.kex_reader.specs.Uses.{InStages, NodeNumber};
 ghost use Rattle.kex_reader.specs.Checks.{Check, Staged};
@@ -20,8 +20,8 @@ ghost use Rattle.kex_reader.specs.Stands.{Behind, ConstructsShow, InConstructs, 
 ghost use Rattle.kex_reader.specs.Stands.{NotesLeast, NotesMore, OnAtom, OnTermTurned, SomeAtom};
 ghost use Rattle.kex_reader.specs.Stands.{SomeConstructs, SomeInside, SomeName, SomeTermTurned};
 ghost use Rattle.kex_reader.specs.Stands.{word_of};
-ghost use Rattle.kex_reader.specs.Syntax.{Atom, Call, Definition as SpecDefinition, Define, Once};
-ghost use Rattle.kex_reader.specs.Syntax.{Turns, Header, word as grammar_word};
+ghost use Rattle.kex_reader.specs.Syntax.{Call, Define, Once};
+ghost use Rattle.kex_reader.specs.Syntax.{Turns, word as grammar_word};
 
 use crate::draft::Draft;
 use crate::inside::{TermFault, TermWait, call, end_turns, step_in};

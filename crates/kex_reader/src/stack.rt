@@ -1,6 +1,6 @@
 // What is open in a definition.
 
-ghost use Rattle.std.specs.Prelude.{◌≡◌, ℕ, Bool, List, [], ◌∷◌, length, OnOk, IfSome, IfNone};
+ghost use Rattle.std.specs.Prelude.{◌≡◌, ℕ, List, [], ◌∷◌, length, OnOk, IfSome, IfNone};
 ghost use Rattle.std.specs.Prelude.{◌==◌};
 ghost use Rattle.kex_reader.specs.Stands.{is_opening, open_constructs, construct_of};
 

@@ -1,9 +1,8 @@
 // The whole text.
 
-ghost use Rattle.std.specs.Prelude.{◌≡◌, ℕ, ◌<◌, ◌≤◌, ◌⊎◌, [], None, Some, List, length, All, IfOk};
+ghost use Rattle.std.specs.Prelude.{◌≡◌, ℕ, ◌<◌, ◌≤◌, ◌⊎◌, None, Some, length, All, IfOk};
 ghost use Rattle.std.specs.Prelude.{IfErr};
 ghost use Rattle.kex_code.specs.Codes.{Different, IsAmong};
-ghost use Rattle.kex_model.specs.Programs.{Grammar};
 ghost use Rattle.kex_tokens.specs.Texts.{AreTokens, IsSpan, most_text};
 ghost use Rattle.kex_reader.specs.Holding.{ShowsHead};
 ghost use Rattle.kex_reader.specs.Shown.{ShowsDefinitions};

@@ -1,5 +1,5 @@
 -- Which node of a list shows a tree at an offset, whatever the nodes' numbers.
-use Rattle.std.specs.Prelude.{◌≡◌, ℕ, ◌+◌, Bool, true, false, List, ◌++◌, length, Some, slice_get}
+use Rattle.std.specs.Prelude.{◌≡◌, ℕ, ◌+◌, Bool, true, List, ◌++◌, length, Some, slice_get}
 use Rattle.std.specs.Prelude.{◌==◌}
 use Rattle.kex_byteset.specs.Sets.{HasExactly}
 use Rattle.kex_code.specs.Codes.{IsAmong}

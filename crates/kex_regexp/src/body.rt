@@ -4,7 +4,7 @@ ghost use Rattle.std.specs.Prelude.{◌≡◌, ℕ, ◌+◌, ◌<◌, ◌^◌, L
 ghost use Rattle.std.specs.Prelude.{Some, None};
 ghost use Rattle.kex_regexp.specs.Bodies.{IsRefusal, SpellsRegex, fault_of};
 ghost use Rattle.kex_regexp.specs.Breaks.{regex_breaks};
-ghost use Rattle.kex_regexp.specs.Grammar.{Regex, Empty};
+ghost use Rattle.kex_regexp.specs.Grammar.{Regex};
 ghost use Rattle.kex_regexp.specs.Holding.{Ends, ConstructsShow, InConstructs, IsHeld};
 ghost use Rattle.kex_regexp.specs.Holding.{SomeConstructs, SomeState, ShowsState};
 ghost use Rattle.kex_regexp.specs.Machine.{Entry, State, entries, bytes_read, take_regex};

@@ -1,7 +1,7 @@
 // Laws of bodies: what bytes spell, and where they go wrong, is one thing; nodes that are added
 // name nothing.
 
-ghost use Rattle.std.specs.Prelude.{◌≡◌, ℕ, ◌++◌, List};
+ghost use Rattle.std.specs.Prelude.{◌≡◌, ℕ, List};
 ghost use Rattle.kex_code.specs.Codes.{IsAmong};
 ghost use Rattle.kex_model.specs.Programs.{HasNames};
 ghost use Rattle.kex_model.specs.declared.program.Node.{Node};

@@ -1,7 +1,7 @@
 // Sets between brackets: where the next byte comes, and which bytes are in the set so far.
 
 ghost use Rattle.std.specs.Prelude.{◌≡◌, ◌&&◌, ◌||◌, ℕ, Bool, List, Option, false, not, nat_le};
-ghost use Rattle.std.specs.Prelude.{nat_lt, IfSome, IfNone};
+ghost use Rattle.std.specs.Prelude.{nat_lt};
 ghost use Rattle.kex_byteset.specs.Sets.{HasExactly, has};
 ghost use Rattle.kex_model.specs.declared.program.Node.{Node};
 ghost use Rattle.kex_regexp.specs.Notes.{is_bad_set_so_far};

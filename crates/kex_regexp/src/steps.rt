@@ -2,15 +2,15 @@
 
 ghost use Rattle.std.specs.Prelude.{◌≡◌, ℕ, ◌+◌, ◌<◌, List, [], ◌∷◌, ◌++◌, length, reverse, OnOk};
 ghost use Rattle.std.specs.Prelude.{IfOk, IfErr};
-ghost use Rattle.kex_regexp.specs.Grammar.{Item, Postfix, Empty, Turns, item as spelled_item};
+ghost use Rattle.kex_regexp.specs.Grammar.{Postfix, Empty, Turns, item as spelled_item};
 ghost use Rattle.kex_regexp.specs.Grammar.{postfix};
-ghost use Rattle.kex_regexp.specs.Holding.{ConstructsShow, HoldsBounds, HoldsItem, InConstructs};
+ghost use Rattle.kex_regexp.specs.Holding.{ConstructsShow, HoldsBounds, InConstructs};
 ghost use Rattle.kex_regexp.specs.Holding.{IsHeld, IsSetAfter, LosesNone, IsTurns, OnItem};
 ghost use Rattle.kex_regexp.specs.Holding.{OnTurned, ShowsCountStep, ShowsEscape, ShowsSet};
 ghost use Rattle.kex_regexp.specs.Holding.{SomeBehind, SomeConstructs, SomeState, SomeTurned};
 ghost use Rattle.kex_regexp.specs.Holding.{ShowsState, Steps};
 ghost use Rattle.kex_regexp.specs.Machine.{EscapeStep, SetStep, CountStep, Entry, Read, Ready};
-ghost use Rattle.kex_regexp.specs.Machine.{State, entries, bytes_read, goes, take_pieces};
+ghost use Rattle.kex_regexp.specs.Machine.{State, entries, bytes_read, take_pieces};
 ghost use Rattle.kex_regexp.specs.Machine.{take_regex, begin_piece, after_item, after_turns};
 ghost use Rattle.kex_regexp.specs.Machine.{end_branch, after_group as close_parenthesis};
 ghost use Rattle.kex_regexp.specs.Machine.{on_escape as spec_on_escape, on_set as spec_on_set};
@@ -29,6 +29,7 @@ use kex_code::memory::Memory;
 use kex_model::builder::Builder;
 use kex_model::program::{Kind, Node};
 
+/// One construct more is open.
 pub fn push(constructs: &mut Vec<Construct>, construct: Construct) -> Result<(), Memory>
     ensures ok { OnOk result (constructs.new.items ≡ constructs.old.items ++ construct ∷ []) }
 {

@@ -1,9 +1,8 @@
 // Into a ring, and out of one.
 
-ghost use Rattle.std.specs.Prelude.{◌≡◌, ◌<◌, ◌≤◌, ◌+◌, ◌++◌, ◌∷◌, [], List, ℕ, IfOk, OnOk, length};
+ghost use Rattle.std.specs.Prelude.{◌≡◌, ◌<◌, ◌≤◌, ◌+◌, ◌++◌, IfOk, OnOk, length};
 ghost use Rattle.std.specs.Prelude.{map, take, min};
-ghost use Rattle.rtrb.specs.Ring.{sent, known_free, received, known_items, SameProducer};
-ghost use Rattle.rtrb.specs.Ring.{SameConsumer};
+ghost use Rattle.rtrb.specs.Ring.{known_items};
 ghost use Rattle.kex_pipe.specs.Seats.{IsWhole};
 ghost use Rattle.kex_pipe.specs.Waiting.{unread_bytes, waiting_items};
 ghost use Rattle.kex_rings.specs.declared.passing.TheConstants.{RUN};

@@ -1,12 +1,11 @@
 // A pipeline of stages that rings join.
 
-ghost use Rattle.std.specs.Prelude.{◌≡◌, ◌≢◌, ◌<◌, ◌≤◌, ◌^◌, ◌↔◌, ◌++◌, ◌∷◌, ◌⊎◌, [], List, ℕ};
-ghost use Rattle.std.specs.Prelude.{Bool, false, None, Err, IsTrue, IfOk, OnOk, OnErr, is_err, All};
+ghost use Rattle.std.specs.Prelude.{◌≡◌, ◌≢◌, ◌<◌, ◌≤◌, ◌^◌, ◌↔◌, ◌++◌, ◌∷◌, [], List, ℕ};
+ghost use Rattle.std.specs.Prelude.{false, None, Err, IsTrue, IfOk, OnOk, OnErr, is_err, All};
 ghost use Rattle.std.specs.Prelude.{length, map, vec_len};
 ghost use Rattle.kex_model.specs.Answers.{Pipeline};
 ghost use Rattle.kex_model.specs.Schedules.{Event, give, give_end, Settled};
 ghost use Rattle.kex_rings.specs.Ends.{AreBeside};
-ghost use Rattle.kex_rings.specs.Looking.{AllRingSeatsUsable};
 ghost use Rattle.kex_rings.specs.Lines.{Joined, HaveRings};
 ghost use Rattle.kex_rings.specs.Props.{prop, rings-prop};
 

@@ -1,6 +1,6 @@
 // A stage between two rings.
 
-ghost use Rattle.std.specs.Prelude.{◌≡◌, ◌≤◌, ◌+◌, ◌<◌, ◌*◌, ◌^◌, ◌↔◌, [], ℕ, true, false, IsTrue};
+ghost use Rattle.std.specs.Prelude.{◌≡◌, ◌≤◌, ◌+◌, ◌<◌, ◌*◌, ◌^◌, ◌↔◌, [], true, IsTrue};
 ghost use Rattle.std.specs.Prelude.{IfOk, OnOk};
 
 use crate::item::Item;

@@ -1,7 +1,7 @@
 // A round of all stages at once, joined by their rings.
 
 ghost use Rattle.std.specs.Prelude.{◌≡◌, ◌+◌, ◌<◌, ◌≤◌, ◌^◌, ◌++◌, ◌∷◌, ◌↔◌, [], List, ℕ, None};
-ghost use Rattle.std.specs.Prelude.{Err, IsTrue, IfOk, OnOk, OnErr, is_ok, is_err, length, map};
+ghost use Rattle.std.specs.Prelude.{Err, IsTrue, OnOk, OnErr, is_ok, is_err, length, map};
 ghost use Rattle.std.specs.Prelude.{vec_len};
 ghost use Rattle.std.specs.Thread.{IsSync};
 ghost use Rattle.kex_model.specs.Schedules.{Event};
@@ -11,7 +11,7 @@ ghost use Rattle.kex_rings.specs.Ends.{sent_to, free_in, taken_from, SameGiver, 
 ghost use Rattle.kex_rings.specs.Ends.{ArePaired, AreBeside};
 ghost use Rattle.kex_rings.specs.Looking.{Looks, OnlyLooked, NowBeside, CarriedOut};
 ghost use Rattle.kex_rings.specs.Looking.{AllRingSeatsUsable, WorkedAll};
-ghost use Rattle.kex_rings.specs.Lines.{turns_from, RingLine, Joined, HaveRings, AllGetOn};
+ghost use Rattle.kex_rings.specs.Lines.{turns_from, Joined, HaveRings, AllGetOn};
 ghost use Rattle.kex_rings.specs.Lines.{LineRounds};
 ghost use Rattle.kex_rings.specs.Standing.{RingsStand, RingsBeginAnswer, RingsHaveWritten};
 ghost use Rattle.kex_rings.specs.Standing.{rings_in_hand, rings_ended, rings_spent};

@@ -1,6 +1,6 @@
 // All that waits is worked off, step by step.
 
-ghost use Rattle.std.specs.Prelude.{◌≡◌, ◌<◌, ◌++◌, [], List, ℕ, None, true, All, IsTrue, IfOk};
+ghost use Rattle.std.specs.Prelude.{◌≡◌, ◌<◌, ◌++◌, [], None, true, All, IsTrue, IfOk};
 ghost use Rattle.std.specs.Prelude.{IfSome, OnOk, OnErr, length};
 ghost use Rattle.kex_pipe.specs.Waiting.{unread_bytes, waiting_items};
 ghost use Rattle.kex_pipe.specs.Seats.{IsWhole};

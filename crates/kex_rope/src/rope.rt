@@ -1,7 +1,7 @@
 // Ropes.
 
 ghost use Rattle.std.specs.Prelude.{◌≡◌, ◌+◌, ◌^◌, ◌<◌, ◌≤◌, [], ◌∷◌, ◌++◌, ◌↔◌, IsTrue, length};
-ghost use Rattle.std.specs.Prelude.{max, OnOk, OnErr, IfOk};
+ghost use Rattle.std.specs.Prelude.{OnOk, OnErr, IfOk};
 ghost use Rattle.kex_code.specs.Codes.{Begins};
 ghost use Rattle.kex_rope.specs.Blocks.{symbols_in, AreFilled, AreBlocks};
 

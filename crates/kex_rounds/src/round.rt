@@ -1,7 +1,7 @@
 // A round of all the stages of a pipe.
 
-ghost use Rattle.std.specs.Prelude.{◌≡◌, ◌+◌, ◌<◌, ◌≤◌, ◌^◌, ◌++◌, ◌⊎◌, ◌↔◌, ◌&&◌, [], List, ℕ};
-ghost use Rattle.std.specs.Prelude.{true, false, IsTrue, OnOk, OnErr, is_ok, is_err, Err, suc, All};
+ghost use Rattle.std.specs.Prelude.{◌≡◌, ◌+◌, ◌<◌, ◌≤◌, ◌^◌, ◌++◌, ◌↔◌, ◌&&◌, List, ℕ};
+ghost use Rattle.std.specs.Prelude.{true, false, IsTrue, OnOk, OnErr, is_ok, is_err, Err, suc};
 ghost use Rattle.std.specs.Prelude.{IsPermutation, map, length};
 ghost use Rattle.std.specs.List.{range_with_len};
 ghost use Rattle.std.specs.Thread.{IsSync};

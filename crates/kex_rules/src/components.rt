@@ -17,8 +17,8 @@ use kex_code::memory::Memory;
 use kex_model::program::Program;
 use std::alloc::Global;
 
-// How far the search is with a vertex: not met, open at this number of the path, or in a component
-// of this number.
+/// How far the search is with a vertex: not met, open at this number of the path, or in a component
+/// of this number.
 #[derive(Clone, Copy, PartialEq, Eq, Debug)]
 pub enum Mark {
     Unseen,
@@ -26,15 +26,15 @@ pub enum Mark {
     Closed(usize),
 }
 
-// Where an open component begins: on the path, and among the ways that are still to be gone.
+/// Where an open component begins: on the path, and among the ways that are still to be gone.
 #[derive(Clone, Copy)]
 pub struct Bound {
     pub path: usize,
     pub ahead: usize,
 }
 
-// The search: the open vertices as they were met, the vertices that are still ahead of them, and
-// where the open components begin. Of two open components the earlier one leads to the later one.
+/// The search: the open vertices as they were met, the vertices that are still ahead of them, and
+/// where the open components begin. Of two open components the earlier one leads to the later one.
 #[derive(Drop)]
 pub struct Search {
     marks: Vec<Mark>,

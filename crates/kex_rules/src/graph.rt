@@ -7,7 +7,7 @@ ghost use Rattle.kex_rules.specs.Tables.{HasRoots};
 
 use kex_model::program::{Kind, Program};
 
-// Where a vertex leads.
+/// Where a vertex leads.
 #[derive(Clone, Copy)]
 pub enum VertexSuccessors {
     NoWay,

@@ -1,6 +1,6 @@
 // Calls that are outside tail position and come back.
 
-ghost use Rattle.std.specs.Prelude.{◌≡◌, ℕ, ◌<◌, ◌≤◌, ◌∷◌, [], IfOk, length};
+ghost use Rattle.std.specs.Prelude.{◌<◌, ◌≤◌, ◌∷◌, [], IfOk, length};
 ghost use Rattle.kex_model.specs.Programs.{HasBelow, IsGrammar};
 ghost use Rattle.kex_rules.specs.Graphs.{AreComponents, vertices, vertex_successors};
 ghost use Rattle.kex_rules.specs.Rules.{IsNotTail, last_parts, other_parts};

@@ -1,6 +1,6 @@
 // Nodes that are in a definition.
 
-ghost use Rattle.std.specs.Prelude.{◌≡◌, ◌<◌, ◌∷◌, [], IfOk, length};
+ghost use Rattle.std.specs.Prelude.{◌<◌, IfOk, length};
 ghost use Rattle.kex_model.specs.Programs.{HasBelow, IsGrammar};
 ghost use Rattle.kex_rules.specs.Rules.{last_parts, other_parts};
 ghost use Rattle.kex_rules.specs.Within.{FlagsParts, HasWithin};

@@ -3,11 +3,11 @@
 mod settling;
 
 ghost use Rattle.std.specs.Prelude.{◌≡◌, ◌≢◌, ◌+◌, ◌-◌, ◌<◌, ◌≤◌, [], ◌∷◌, ◌++◌, OnOk, OnErr, IfOk};
-ghost use Rattle.std.specs.Prelude.{IfSome, All, true, false, length, get_or, map, reverse};
+ghost use Rattle.std.specs.Prelude.{IfSome, All, true, false, length, get_or, reverse};
 ghost use Rattle.std.specs.Prelude.{slice_get, take};
 ghost use Rattle.std.specs.Vec.{vec_capacity, vec_len};
 ghost use Rattle.kex_byteset.specs.Classes.{class_count};
-ghost use Rattle.kex_sst.specs.Parts.{item_count, long_in, parts_code, value};
+ghost use Rattle.kex_sst.specs.Parts.{item_count, parts_code, value};
 ghost use Rattle.kex_script.specs.Pieces.{code_over};
 ghost use Rattle.kex_script.specs.Scripts.{HasUpdate, Sheet, change_at};
 ghost use Rattle.kex_runner.specs.Histories.{contents_after};

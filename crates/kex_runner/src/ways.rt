@@ -8,7 +8,7 @@ ghost use Rattle.kex_sst.specs.declared.parts.Part.{Part};
 ghost use Rattle.kex_sst.specs.Parts.{olds};
 ghost use Rattle.kex_script.specs.Pages.{KeepsItems};
 ghost use Rattle.kex_script.specs.Scripts.{IsWord, Sheet, change_at, list_at};
-ghost use Rattle.kex_runner.specs.Ways.{AreKnown, AreOlds, HasStart, HasStep, IsSplit, IsStart};
+ghost use Rattle.kex_runner.specs.Ways.{AreKnown, AreOlds, HasStart, HasStep, IsSplit};
 ghost use Rattle.kex_runner.specs.Ways.{IsWayStep, IsStepIf, IsNumberedWay, composition, split_in};
 
 use crate::ways::ids::{ShortWordId, WayId};

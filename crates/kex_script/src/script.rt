@@ -1,7 +1,7 @@
 // The lists of a table's updates, and what each state does on each class of bytes.
 
-ghost use Rattle.std.specs.Prelude.{◌≡◌, ◌+◌, ◌*◌, ◌<◌, [], suc, false, Option, Some, None, IfOk};
-ghost use Rattle.std.specs.Prelude.{MatchOption, get_or, slice_get, length};
+ghost use Rattle.std.specs.Prelude.{◌≡◌, ◌+◌, ◌*◌, ◌<◌, [], false, Option, Some, None, IfOk};
+ghost use Rattle.std.specs.Prelude.{MatchOption, get_or, length};
 ghost use Rattle.kex_script.specs.Scripts.{AreLetters, IsScriptOf, IsTail, change_at, entry_at};
 ghost use Rattle.kex_script.specs.Scripts.{list_at};
 

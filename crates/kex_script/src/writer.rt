@@ -1,7 +1,7 @@
 // Writes the lists of updates down, each once.
 
 ghost use Rattle.std.specs.Prelude.{◌≡◌, ℕ, ◌+◌, ◌<◌, ◌≤◌, List, [], ◌∷◌, ◌++◌, Option, Some, None};
-ghost use Rattle.std.specs.Prelude.{true, false, IfOk, OnOk, IfSome, ◌↔◌, length, get_or};
+ghost use Rattle.std.specs.Prelude.{true, false, IfOk, OnOk, length, get_or};
 ghost use Rattle.std.specs.Prelude.{slice_get, take, drop};
 ghost use Rattle.kex_sst.specs.Parts.{olds, olds_in};
 ghost use Rattle.kex_sst.specs.Tables.{Row};

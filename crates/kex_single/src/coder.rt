@@ -1,6 +1,6 @@
 // The code of a stage's input.
 
-ghost use Rattle.std.specs.Prelude.{◌≡◌, ◌+◌, ◌<◌, ◌≤◌, ◌^◌, ◌&&◌, not, ℕ, true, IfOk, IfSome};
+ghost use Rattle.std.specs.Prelude.{◌≡◌, ◌+◌, ◌<◌, ◌≤◌, ◌^◌, ◌&&◌, not, true, IfOk, IfSome};
 ghost use Rattle.std.specs.Prelude.{None, IsTrue};
 ghost use Rattle.kex_machine.specs.Answers.{HasRun, IsViableFor};
 ghost use Rattle.kex_pipe.specs.Working.{ClosesParsed, SaysViable};

@@ -1,7 +1,7 @@
 // What the text of a code means.
 
-ghost use Rattle.std.specs.Prelude.{◌≡◌, ◌≤◌, ◌<◌, ◌+◌, ◌-◌, ◌^◌, ◌++◌, ◌∷◌, ◌&&◌, [], ℕ, List};
-ghost use Rattle.std.specs.Prelude.{true, IfOk, IfSome, OnOk, IsTrue, IsOk, ◌↔◌, min, take, None};
+ghost use Rattle.std.specs.Prelude.{◌≡◌, ◌≤◌, ◌<◌, ◌+◌, ◌-◌, ◌^◌, ◌∷◌, ◌&&◌, []};
+ghost use Rattle.std.specs.Prelude.{true, IfOk, IfSome, IsTrue, IsOk, ◌↔◌, min, take, None};
 ghost use Rattle.std.specs.Prelude.{length};
 ghost use Rattle.kex_code.specs.declared.symbol.Symbol.{Symbol};
 ghost use Rattle.kex_code.specs.Texts.{text_of};

@@ -1,6 +1,6 @@
 // Tables: states, and what they do on each class of bytes.
 
-ghost use Rattle.std.specs.Prelude.{◌≡◌, ◌<◌, ℕ, Option, Some, None, MatchOption, length};
+ghost use Rattle.std.specs.Prelude.{◌≡◌, ◌<◌, Option, Some, None, MatchOption, length};
 ghost use Rattle.kex_byteset.specs.Classes.{class_count};
 ghost use Rattle.kex_sst.specs.Tables.{IsTable, Row, transition_of};
 

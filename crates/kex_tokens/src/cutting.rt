@@ -1,6 +1,6 @@
 // A text cut into its lexemes, and the tokens among them.
 
-ghost use Rattle.std.specs.Prelude.{◌≡◌, ℕ, ◌<◌, ◌≤◌, ◌++◌, ◌↔◌, ◌⊎◌, List, Err, length, All, IfOk};
+ghost use Rattle.std.specs.Prelude.{◌≡◌, ℕ, ◌<◌, ◌≤◌, ◌++◌, ◌⊎◌, List, Err, length, All, IfOk};
 ghost use Rattle.std.specs.Prelude.{IfErr, MatchResult};
 ghost use Rattle.kex_tokens.specs.declared.token.Token.{Token};
 ghost use Rattle.kex_tokens.specs.Texts.{AreInOrder, AreTokens, IsBadToken, AreTokensRefused};

@@ -1,5 +1,5 @@
 // One block through the stages into a sink.
-ghost use Rattle.std.specs.Prelude.{◌≡◌, ◌++◌, true, false, List, ℕ, Option, Some, None, IfErr};
+ghost use Rattle.std.specs.Prelude.{◌≡◌, ◌++◌, true, false, IfErr};
 ghost use Rattle.std.specs.Prelude.{IfOk, OnOk};
 ghost use Rattle.kex_ports.specs.Endings.{IsUnfinished};
 ghost use Rattle.kex_top.specs.History.{History, bytes_passed, is_history_ended, WritesSaid};

@@ -10,7 +10,7 @@ use kex_machine::{MNode, node_at};
 use std::alloc::{AllocError, Global};
 use std::marker::Model;
 
-// Where a node leads.
+/// Where a node leads.
 #[derive(Clone, Copy)]
 pub enum Successors {
     NoWay,
@@ -37,7 +37,7 @@ fn successors_of(node: &MNode) -> Successors
     }
 }
 
-// The nodes that lead to a node.
+/// The nodes that lead to a node.
 #[derive(Drop)]
 pub struct Sources {
     all: Vec<u32>,

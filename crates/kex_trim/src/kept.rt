@@ -9,7 +9,7 @@ ghost use Rattle.kex_trim.specs.Ways.{LeadsBelow};
 use kex_machine::{Bit, MNode};
 use std::alloc::{AllocError, Global};
 
-// The nodes that are kept, in order, and the new number of each.
+/// The nodes that are kept, in order, and the new number of each.
 #[derive(Drop)]
 pub struct Numbering {
     pub(crate) kept: Vec<u32>,

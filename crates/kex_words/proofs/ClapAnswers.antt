@@ -1,6 +1,6 @@
 -- From what `clap` says of its answer to what the words ask for.
 use Rattle.std.proofs.Common.{◌≡◌, List, [], ◌∷◌, true, false, refl, sym, ap, subst, rules, inl, inr}
-use Rattle.std.specs.Prelude.{None, Some, Option}
+use Rattle.std.specs.Prelude.{None, Option}
 use Rattle.clap.specs.Words.{App, HasMatchesOf, Row, Text, HasKind, IsAmong, Kinds, fault_of, is_simple, is_simple_and_free, subcommand_rows_of}
 use Rattle.clap.specs.Walk.{is_empty}
 use Rattle.clap.specs.declared.error.kind.ErrorKind.{ErrorKind}

@@ -68,6 +68,7 @@ pub enum RefusalPlace {
     Stage(u32),
 }
 
+/// The rule that a program or a table file breaks, and where.
 #[derive(Clone, Copy, Debug, PartialEq, Eq)]
 pub struct Refusal {
     pub rule: Rule,

@@ -73,8 +73,8 @@ fn or_pop(next: Option<Unread>, pending: &mut Vec<Unread>) -> Option<Unread>
 }
 
 impl<'h> History<'h> {
-    // What a register holds after a number of notes is to be read: the list that the last of them
-    // gives it, or the settled register at once.
+    /// What a register holds after a number of notes is to be read: the list that the last of them
+    /// gives it, or the settled register at once.
     #[inline(always)]
     pub fn ask(
         &self,
@@ -164,7 +164,7 @@ impl<'h> History<'h> {
         }
     }
 
-    // What a list stands for, and what is to be read from it, is read.
+    /// What a list stands for, and what is to be read from it, is read.
     pub fn look_up(&self, first: Option<Unread>, reading: &mut Reading) -> Result<(), Memory>
         requires noted { AreNoted (length self.now.notes.now) (if_some first) }
         requires none { reading.old.pending.items ≡ [] }

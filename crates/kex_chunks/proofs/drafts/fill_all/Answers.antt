@@ -1,4 +1,4 @@
-use Rattle.std.proofs.Common.{◌≡◌, [], get_or, map, sym, subst, ap, ◌∙◌}
+use Rattle.std.proofs.Common.{[], sym, subst, ap, ◌∙◌}
 use Rattle.std.proofs.lemmas.List.{get_or_read}
 use Rattle.kex_code.specs.Codes.{Different, IsAmong}
 use Rattle.kex_sst.specs.Parts.{olds}

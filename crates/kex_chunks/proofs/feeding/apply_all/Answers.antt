@@ -1,12 +1,12 @@
-use Rattle.std.proofs.Common.{rules, ◌≡◌, ◌+◌, ◌-◌, ◌<◌, ◌≤◌, ◌^◌, length, take, drop, sym, ap, subst, ◌∙◌, arith}
-use Rattle.std.specs.Prelude.{IfOk, IsTrue, Ok, get_or, Some}
+use Rattle.std.proofs.Common.{rules, ◌≡◌, ◌+◌, ◌-◌, length, take, drop, sym, ap, subst, ◌∙◌, arith}
+use Rattle.std.specs.Prelude.{IfOk, Ok, get_or, Some}
 use Rattle.std.proofs.lemmas.List.{get_or_read}
 use Rattle.std.proofs.lemmas.Result.{IfOk-weaker}
 use Rattle.kex_sst.specs.Summaries.{Sum}
-use Rattle.kex_runner.specs.Running.{Running, RunnerFeeds}
+use Rattle.kex_runner.specs.Running.{RunnerFeeds}
 use Rattle.kex_chunks.specs.Parts.{AreSummaries}
 use Rattle.kex_chunks.proofs.Feeds.{HasGone, gone_some, part_fed, rest_fed}
-use Rattle.kex_chunks.proofs.Sums.{IsPart, no_more, part_at}
+use Rattle.kex_chunks.proofs.Sums.{no_more, part_at}
 use Rattle.kex_chunks.proofs.feeding.apply_all.Goals as goal
 
 pub apply-requires-clause-room : goal.apply-requires-clause-room

@@ -1,5 +1,5 @@
-use Rattle.std.proofs.Common.{◌≡◌, ◌<◌, get_or, refl, sym, ap, subst, ◌∙◌}
-use Rattle.kex_byteset.specs.Classes.{class_at, class_count}
+use Rattle.std.proofs.Common.{get_or, refl, sym, ap, ◌∙◌}
+use Rattle.kex_byteset.specs.Classes.{class_at}
 use Rattle.kex_sst.specs.declared.summary.Course.TheVariants.{Goes}
 use Rattle.kex_sst.specs.declared.table.Transition.{Transition}
 use Rattle.kex_sst.specs.Parts.{olds, olds_in}

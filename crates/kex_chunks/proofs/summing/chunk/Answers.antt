@@ -1,10 +1,10 @@
-use Rattle.std.proofs.Common.{◌≡◌, ◌+◌, ◌-◌, ◌<◌, ◌≤◌, ◌++◌, [], length, map, take, drop, append-nil, sym, ap, ap₂, subst, ◌∙◌, arith}
+use Rattle.std.proofs.Common.{◌≡◌, ◌+◌, ◌-◌, ◌++◌, [], length, map, take, drop, append-nil, sym, ap, subst, ◌∙◌, arith}
 use Rattle.std.proofs.Math.ListN.{drop_of_length-le}
 use Rattle.std.proofs.Math.Seq.{take-add}
 use Rattle.std.specs.Prelude.{slice_get}
 use Rattle.std.proofs.lemmas.List.{length-map, length-take-le, take_all}
 use Rattle.kex_sst.specs.declared.summary.Course.{Course}
-use Rattle.kex_sst.specs.Summaries.{IsCourseOf, IsSum, Sum, courses_from, sum_of, then_of}
+use Rattle.kex_sst.specs.Summaries.{IsSum, Sum, courses_from, then_of}
 use Rattle.kex_sst.proofs.Courses.{in_range}
 use Rattle.kex_chunks.proofs.Alongs.{courses_in_range}
 use Rattle.kex_chunks.proofs.Sums.{courses_more}

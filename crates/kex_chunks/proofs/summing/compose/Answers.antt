@@ -1,7 +1,6 @@
-use Rattle.std.proofs.Common.{◌≡◌, ◌+◌, length, map, take, sym, ap, ap₂, subst, ◌∙◌, arith}
+use Rattle.std.proofs.Common.{◌≡◌, ◌+◌, length, map, take, sym, ap₂, subst, ◌∙◌, arith}
 use Rattle.std.proofs.lemmas.List.{take_all}
-use Rattle.kex_sst.specs.declared.summary.Course.{Course}
-use Rattle.kex_sst.specs.Summaries.{IsSum, Sum, sum_of, then_of, then_sum}
+use Rattle.kex_sst.specs.Summaries.{IsSum, Sum, then_of, then_sum}
 use Rattle.kex_sst.proofs.Courses.{determined}
 use Rattle.kex_chunks.proofs.Sums.{then_in_range}
 use Rattle.kex_chunks.proofs.summing.compose.Goals as goal

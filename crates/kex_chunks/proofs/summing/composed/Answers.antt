@@ -1,10 +1,7 @@
-use Rattle.std.proofs.Common.{◌≡◌, ◌<◌, ◌^◌, Some, length, refl, sym, ap, subst, ◌∙◌, arith}
-use Rattle.std.specs.Prelude.{slice_get}
-use Rattle.std.proofs.lemmas.Option.{slice_get_read}
+use Rattle.std.proofs.Common.{◌≡◌, ◌<◌, ◌^◌, Some, length, sym, ap, subst, ◌∙◌}
 use Rattle.std.proofs.lemmas.Result.{IfOk-weaker}
-use Rattle.kex_sst.specs.declared.summary.Course.{Course}
 use Rattle.kex_sst.specs.declared.summary.Course.TheVariants.{Goes}
-use Rattle.kex_sst.specs.Summaries.{IsCourseOf, Sum, then_by, then_of}
+use Rattle.kex_sst.specs.Summaries.{IsCourseOf, then_by, then_of}
 use Rattle.kex_chunks.proofs.Alongs.{gone_before}
 use Rattle.kex_chunks.proofs.Sums.{entry_read}
 use Rattle.kex_chunks.proofs.summing.composed.Goals as goal

@@ -9,7 +9,7 @@ use Rattle.kex_determine.specs.Rows.{way_to}
 use Rattle.kex_cover.specs.Keeping.{IsRowWith}
 use Rattle.kex_cover.proofs.LeftLeaves.{shape_same}
 use Rattle.kex_cover.proofs.rows.state_of.Goals as goal
-use Rattle.kex_cover.proofs.rows.state_of.Goals.{After-shape-shape, In_ok-accepting}
+use Rattle.kex_cover.proofs.rows.state_of.Goals.{After-shape-shape}
 
 long : (c : After-shape-shape) → length c.shape-shape.result.now ≡ size_of c.shape-shape.ensures.sound.shape
 long c = ap length (c.shape-shape.ensures.same ∙ c.shape-shape.ensures.sound.inner_is) ∙ inner-length c.shape-shape.ensures.sound.shape

@@ -1,4 +1,4 @@
-use Rattle.std.proofs.Common.{◌<◌, length, refl, sym, subst, Some, IfSome}
+use Rattle.std.proofs.Common.{refl, sym, subst, Some, IfSome}
 use Rattle.kex_machine.specs.Nodes.{Graph}
 use Rattle.kex_leaps.specs.Leaps.{acts_in, IsLastLeap}
 use Rattle.kex_moves.proofs.LastLeaps.{ends_on}

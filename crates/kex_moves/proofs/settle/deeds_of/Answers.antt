@@ -1,7 +1,6 @@
-use Rattle.std.proofs.Common.{◌∙◌, ◌∷◌, [], get_or, take, sym, ap}
-use Rattle.std.proofs.lemmas.List.{take_all}
+use Rattle.std.proofs.Common.{◌∙◌, ◌∷◌, [], take, sym, ap}
 use Rattle.kex_action.specs.declared.action.Action.TheVariants.{Byte}
-use Rattle.kex_action.specs.Actions.{after_action, after_actions}
+use Rattle.kex_action.specs.Actions.{after_actions}
 use Rattle.kex_action.specs.Deeds.{after_deed, after_deeds}
 use Rattle.kex_action.proofs.Actions.{done-more}
 use Rattle.kex_action.proofs.Deeds.{deeds-append}

@@ -1,5 +1,5 @@
-use Rattle.std.proofs.Common.{rules, ◌≡◌, ◌<◌, ◌≤◌, ◌+◌, ◌-◌, ◌∙◌, ℕ, List, take, drop, arith, length}
-use Rattle.std.proofs.lemmas.List.{length-drop, length-take}
+use Rattle.std.proofs.Common.{rules, ◌≤◌, ◌+◌, ◌-◌, ◌∙◌, ℕ, List, take, drop, arith, length}
+use Rattle.std.proofs.lemmas.List.{length-take}
 use Rattle.kex_pipe.specs.Standing.{Stands}
 use Rattle.kex_top.proofs.StageRounds.{none-given, parts-given, front-some}
 use Rattle.kex_top.proofs.rounds.give_front.Goals as goal

@@ -1,4 +1,4 @@
-use Rattle.std.proofs.Common.{◌≡◌, ◌∙◌, ap, sym, subst, [], replicate, false, length}
+use Rattle.std.proofs.Common.{◌∙◌, ap, sym, subst, [], replicate, false}
 use Rattle.std.specs.Prelude.{IsTrue}
 use Rattle.kex_action.specs.Actors.{Position, HasPerformed}
 use Rattle.kex_action.proofs.ActorRuns.{begins_performed, position}

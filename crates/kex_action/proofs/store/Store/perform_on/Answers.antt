@@ -1,11 +1,9 @@
-use Rattle.std.proofs.Common.{◌∙◌, sym, ap, subst, length, []}
+use Rattle.std.proofs.Common.{◌∙◌, sym, ap}
 use Rattle.kex_model.specs.Acting.{after_effect}
-use Rattle.kex_code.specs.Registers.{content_of}
-use Rattle.kex_machine.specs.Nodes.{effect_of, HasRegisters}
+use Rattle.kex_machine.specs.Nodes.{effect_of}
 use Rattle.kex_action.specs.Holdings.{with_bytes}
 use Rattle.kex_action.specs.Sheets.{state_with}
-use Rattle.kex_action.proofs.Buffers.{get_or-any}
-use Rattle.kex_action.proofs.Sheets.{wrote, wrote_register, sets, joins}
+use Rattle.kex_action.proofs.Sheets.{wrote, sets, joins}
 use Rattle.kex_model.specs.Moves.{set_to, add_to}
 use Rattle.kex_action.proofs.store.Store.perform_on.Goals as goal
 

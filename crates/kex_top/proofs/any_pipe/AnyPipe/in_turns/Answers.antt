@@ -1,4 +1,4 @@
-use Rattle.std.proofs.Common.{◌<◌, [], length, map, arith}
+use Rattle.std.proofs.Common.{[], length, map, arith}
 use Rattle.std.proofs.lemmas.List.{length-map}
 use Rattle.kex_top.specs.declared.any_pipe.AnyPipe.TheVariants.{Turns}
 use Rattle.kex_top.proofs.PipeAnswers.{fresh-pipe, same-plans}
