@@ -9,14 +9,17 @@ use kex_action::actor::Actor;
 use kex_action::fault::ActFault;
 use kex_code::memory::Memory;
 use kex_code::symbol::Symbol;
+use thiserror::Error;
 
 /// Why an oracle and an actor don't go on.
-#[derive(Clone, Copy, Debug, PartialEq, Eq, Drop)]
+#[derive(Clone, Copy, Debug, PartialEq, Eq, Drop, Error)]
 pub enum StageFault {
     /// The actor refused a symbol that the oracle told. It refuses none where the two have
     /// followed a text that can go on: `RefusesNone`.
+    #[error("the actor refused a symbol")]
     Refused,
     /// No contract says when this comes.
+    #[error("out of memory")]
     Memory,
 }
 

@@ -20,7 +20,7 @@ use Rattle.kex_plan.specs.Plans.{IsTableFor, Planned, teller, teller_of}
 use Rattle.kex_stage.specs.Stages.{Gives}
 use Rattle.kex_stage.proofs.TableAnswers.{tables_answer}
 use Rattle.kex_sst.specs.Tables.{Transducer}
-use Rattle.kex_top.specs.Pipelines.{AlwaysAnswers, AlwaysSays, StagesSay}
+use Rattle.kex_pipeline.specs.Sayings.{AlwaysAnswers, AlwaysSays, StagesSay}
 
 module _ (g : Graph) (limit : ℕ) (range : IsMachineInRange g.start g.nodes g.registers) (trimmed : IsTrimmed g) where
   pub machine-answers : (w : List ℕ) (e : Bool) → (a : Answer) × MachineAnswers g limit w e a

@@ -17,7 +17,7 @@ use Rattle.kex_action.specs.Actors.{BeginsRun, IsWholeCode}
 use Rattle.kex_single.specs.Plays as plays
 use Rattle.kex_single.specs.Singles as single
 use Rattle.kex_lowering.specs.Stages.{Carries}
-use Rattle.kex_words.specs.Words.{Asked, Mode, Reach}
+use Rattle.kex_words.specs.Words.{Asked, Mode, Reach, most_input}
 use Rattle.kex_words.specs.Words.Asked.{ToCheck, ToStream, ToTry}
 use Rattle.kex_words.specs.Words.Mode.{running, coding, acting, testing}
 use Rattle.kex_model.specs.Programs.{Grammar}
@@ -30,7 +30,6 @@ use Rattle.kex_compile.specs.Compiled.{Accepts, IsCompiled, IsRefused}
 use Rattle.kex_compile.specs.declared.limits.Limits.{Limits}
 use Rattle.kex_compile.specs.declared.refusal.CompileRefusal.{CompileRefusal}
 use Rattle.kex_words.specs.Gains.{StreamChange}
-use Rattle.kex_words.specs.Words.{most_input}
 use Rattle.kex_words.specs.Lines.{counts_line, trial_line}
 use Rattle.kex_words.specs.declared.counts.TrialCounts.{TrialCounts}
 use Rattle.kex_top.specs.Commands.{Counted, TellsBytes, calls_of, taken_for, told_text}
@@ -40,11 +39,11 @@ use Rattle.kex_top.specs.Starts.{status_of}
 use Rattle.kex_top.specs.Trials.{AreTrialCounts, made_lines, trial_text, usual_states}
 use Rattle.kex_top.specs.declared.start.StartError.{StartError}
 use Rattle.kex_top.specs.declared.start.StartError.TheVariants as start
-use Rattle.kex_top.specs.Answer.{Said}
-use Rattle.kex_top.specs.Piped.{limit_of, plans_of, stages_of}
-use Rattle.kex_top.specs.declared.any_pipe.AnyPipe.{AnyPipe}
+use Rattle.kex_pipeline.specs.Sayings.{Said, StagesSay, first_limit}
+use Rattle.kex_pipeline.specs.Piped.{limit_of, plans_of, stages_of}
+use Rattle.kex_pipeline.specs.declared.any_pipe.AnyPipe.{AnyPipe}
 use Rattle.kex_pipe.specs.declared.turn.Turn.{Ghosts}
-use Rattle.kex_top.specs.Pipelines.{Answered, NodesSay, StagesSay, agreed_plans, first_limit, stage_plans, told_plans}
+use Rattle.kex_top.specs.Pipelines.{Answered, NodesSay, agreed_plans, stage_plans, told_plans}
 use Rattle.kex_top.specs.Run.{IsAsBefore, Left, Ran, EndsAs, WritesAll}
 use Rattle.kex_top.specs.Kex.{CommandAnswers, CommandWorks}
 use Rattle.kex_top.proofs.CommandCases.{laws_of}

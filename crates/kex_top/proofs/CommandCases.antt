@@ -12,7 +12,7 @@ use Rattle.kex_words.specs.Words.{Asked, Mode, Reach}
 use Rattle.kex_words.specs.Words.Asked.{ToCheck, ToCompile, ToEach, ToExec, ToStream, ToTry}
 use Rattle.kex_words.specs.Words.Mode.{running, coding, acting, testing}
 use Rattle.kex_words.specs.declared.refusals.Refusal.{Refusal}
-use Rattle.kex_top.specs.Answer.{Said}
+use Rattle.kex_pipeline.specs.Sayings.{Said}
 use Rattle.kex_top.specs.ByLines.{IsShort, RanByLines, SaysLines, line_block}
 use Rattle.kex_top.specs.Commands.{InputIsGood, Performs, StreamParses, TellsBytes, calls_of, runs_within, taken_for, told_text}
 use Rattle.kex_top.specs.Kex.{BreaksNoRule, CommandWorks, Headline, WorksWith}

@@ -33,7 +33,7 @@ use Rattle.kex_single.specs.TestLaws.{both_nothing}
 use Rattle.kex_words.specs.Words.{Asked, Mode}
 use Rattle.kex_words.specs.Words.Mode.{running, coding, acting, testing}
 use Rattle.kex_words.specs.Gains.{StreamChange}
-use Rattle.kex_top.specs.Answer.{Said}
+use Rattle.kex_pipeline.specs.Sayings.{Said}
 use Rattle.kex_top.specs.Modes.{BeginsTreeCode, HasParseAlone, IsTreeCode, WritesPart, MeansCode, SaysBy, SaysCode, SaysNothing, StageGives}
 use Rattle.kex_top.specs.Pipelines.{MeansInTurn}
 use Rattle.kex_top.specs.Run.{Ran, WritesAll}

@@ -1,11 +1,5 @@
-pub mod Schedules
-pub mod StageRounds
-pub mod StageOrder
 pub mod PlannedStages
-pub mod RingRounds
-pub mod PipeAnswers
 pub mod LineColumns
-pub mod BlockFronts
 pub mod AnswerExistence
 pub mod WholeRuns
 pub mod LineRuns

@@ -12,7 +12,7 @@ use Rattle.kex_each.specs.Answers.{AnswersLines}
 use Rattle.kex_words.specs.Gains.{StreamChange}
 use Rattle.kex_words.specs.Words.Asked.{ToEach}
 use Rattle.kex_words.specs.Words.Mode.{running}
-use Rattle.kex_top.specs.Answer.{Said}
+use Rattle.kex_pipeline.specs.Sayings.{Said}
 use Rattle.kex_top.specs.ByLines.{EndsByLines, LinesSay, NodesSayLines, RanByLines, SaysLines, line_block}
 use Rattle.kex_top.specs.Kex.{CommandAnswers}
 use Rattle.kex_top.specs.Modes.{limits_to_check}

@@ -20,13 +20,14 @@ use Rattle.kex_each.specs.Lines.{begun_behind, lines_behind, lines_of, line_if_s
 use Rattle.kex_each.proofs.LineLists.{begins_lines, by_pieces}
 use Rattle.kex_words.specs.Words.{most_input}
 use Rattle.kex_words.specs.Gains.{StreamChange, change}
-use Rattle.kex_top.specs.Answer.{Said}
+use Rattle.kex_pipeline.specs.Sayings.{Said}
 use Rattle.kex_top.specs.ByLines.{EndsByLines, GoesPast, NodesSayLines, LinesSay, PumpedByLines, RanByLines}
 use Rattle.kex_top.specs.LineWrites.{PassesLines, WritesTexts, WritesTextsFront}
 use Rattle.kex_top.specs.Outside.{Closes, IsSinkOpen, ReadsBlocks}
-use Rattle.kex_top.specs.Run.{TroubleCause, WritesAll, WritesBegun, WritesEarlier, is_whole, status_after}
-use Rattle.kex_top.specs.declared.pass.Trouble.{Trouble}
-use Rattle.kex_top.specs.declared.pass.Trouble.TheVariants as trouble
+use Rattle.kex_pipeline.specs.Troubles.{TroubleCause}
+use Rattle.kex_top.specs.Run.{WritesAll, WritesBegun, WritesEarlier, is_whole, status_after}
+use Rattle.kex_pipeline.specs.declared.pass.Trouble.{Trouble}
+use Rattle.kex_pipeline.specs.declared.pass.Trouble.TheVariants as trouble
 use Rattle.kex_top.specs.declared.status.Status.{Status}
 use Rattle.kex_top.specs.declared.status.Status.TheVariants.{Done, Rejected, Usage, Refused, TooLong, InputTooLong, ReadFault, WriteFault, ShelfFault, Memory}
 

@@ -5,8 +5,8 @@ use Rattle.kex_ports.specs.Endings.{Ending, counts_of, finishes_of}
 use Rattle.kex_ports.proofs.Endings.{same-finishes}
 use Rattle.kex_top.specs.Outside.{IsSinkOpen}
 use Rattle.kex_top.specs.Run.{is_whole, status_after}
-use Rattle.kex_top.specs.declared.pass.Trouble.{Trouble}
-use Rattle.kex_top.specs.declared.pass.Trouble.TheVariants as trouble
+use Rattle.kex_pipeline.specs.declared.pass.Trouble.{Trouble}
+use Rattle.kex_pipeline.specs.declared.pass.Trouble.TheVariants as trouble
 use Rattle.kex_top.specs.declared.status.Status.{Status}
 
 pub open-worked : (before now : Option Ending) (s : Status) → counts_of now ≡ counts_of before → IsSinkOpen before now s

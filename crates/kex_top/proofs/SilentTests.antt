@@ -9,7 +9,7 @@ use Rattle.kex_single.specs.Singles.{MachineTestAnswers}
 use Rattle.kex_words.specs.Gains.{StreamChange, change}
 use Rattle.kex_words.specs.Words.Mode.{testing}
 use Rattle.kex_pipe.specs.declared.report.Rejected.{Rejected as Report}
-use Rattle.kex_top.specs.Answer.{Said}
+use Rattle.kex_pipeline.specs.Sayings.{Said}
 use Rattle.kex_top.specs.Modes.{MachinesSay}
 use Rattle.kex_top.specs.Run.{EndsAs, IsAsBefore, Ran, WritesAll}
 use Rattle.kex_top.specs.declared.status.Status.{Status}

@@ -3,8 +3,8 @@ use Rattle.std.proofs.Common.{◌≡◌, ◌+◌, ◌*◌, ◌%◌, ◌^◌, ◌
 use Rattle.std.specs.Prelude.{Some}
 use Rattle.std.proofs.lemmas.List.{append_assoc, length-append}
 use Rattle.kex_pipe.specs.declared.turn.Fate.{Fate}
-use Rattle.kex_top.specs.Answer.{Said}
-use Rattle.kex_top.specs.History.{FeedsStages, History, bytes_passed, history_text}
+use Rattle.kex_pipeline.specs.Sayings.{Said}
+use Rattle.kex_pipeline.specs.History.{FeedsStages, History, bytes_passed, history_text}
 use Rattle.kex_top.specs.Tallies.{Counts, HasWaiting, AreStagesFed, IsTally}
 use Rattle.kex_top.specs.Trials.{saturated_count, drawn_line, lines_from, next_random, rolling_sum}
 use Rattle.kex_top.specs.declared.tally.Tally.{Tally}

@@ -5,18 +5,19 @@ use Rattle.std.specs.Io.KnownBytes.{Appends, Consumes, IsAtEnd, Keeps}
 use Rattle.kex_ports.specs.Causes.{Rose}
 use Rattle.kex_ports.specs.Bytes.{IsPrefix}
 use Rattle.kex_ports.proofs.Known.{append-nil, appends-nothing, appends-then, appends-same, appends-kept, prefix-whole}
-use Rattle.kex_top.specs.Answer.{Said}
-use Rattle.kex_top.specs.History.{History, StagesFed, IsSaidSoFar, bytes_passed, history_text, WritesSaid, WritesEarly, WritesSaidFront, WritesUpTo}
+use Rattle.kex_pipeline.specs.Sayings.{Said}
+use Rattle.kex_pipeline.specs.History.{History, StagesFed, IsSaidSoFar, bytes_passed, history_text, WritesSaid, WritesEarly, WritesSaidFront, WritesUpTo}
 use Rattle.kex_words.specs.Gains.{StreamChange, change}
-use Rattle.kex_top.specs.Run.{is_whole, IsSaidBy, Pumped, Ran, EndsAs, WritesAll, WritesBegun, WritesEarlier, TroubleCause, status_of, status_for, status_after}
+use Rattle.kex_pipeline.specs.Troubles.{TroubleCause}
+use Rattle.kex_top.specs.Run.{is_whole, IsSaidBy, Pumped, Ran, EndsAs, WritesAll, WritesBegun, WritesEarlier, status_of, status_for, status_after}
 use Rattle.kex_pipe.specs.declared.turn.Fate.{Fate}
 use Rattle.kex_pipe.specs.declared.turn.Why.{Why}
 use Rattle.kex_pipe.specs.declared.turn.Why.TheVariants.{Byte, End, Limit}
 use Rattle.kex_pipe.specs.declared.report.Rejected.{Rejected as Report}
 use Rattle.kex_top.specs.declared.status.Status.{Status}
 use Rattle.kex_top.specs.declared.status.Status.TheVariants.{Done, Rejected, TooLong, InputTooLong, ReadFault, WriteFault}
-use Rattle.kex_top.specs.declared.pass.Trouble.{Trouble}
-use Rattle.kex_top.specs.declared.pass.Trouble.TheVariants as trouble
+use Rattle.kex_pipeline.specs.declared.pass.Trouble.{Trouble}
+use Rattle.kex_pipeline.specs.declared.pass.Trouble.TheVariants as trouble
 
 appends-kept-after : (a b c : Option (List ℕ)) (x : List ℕ) → Appends a b x → Keeps b c → Appends a c x
 appends-kept-after a b c x p k =

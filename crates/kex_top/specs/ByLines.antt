@@ -11,7 +11,7 @@ use Rattle.kex_each.specs.Lines.{lines_of}
 use Rattle.kex_stage.specs.Stages.{StagePlan, Gives}
 use Rattle.kex_words.specs.Words.{most_input}
 use Rattle.kex_words.specs.Gains.{StreamChange}
-use Rattle.kex_top.specs.Answer.{Said}
+use Rattle.kex_pipeline.specs.Sayings.{Said}
 use Rattle.kex_top.specs.Run.{EndsAs, WritesAll, is_whole}
 use Rattle.kex_top.specs.declared.status.Status.{Status}
 use Rattle.kex_top.specs.declared.status.Status.TheVariants.{Done, Rejected, ReadFault, TooLong}

@@ -9,14 +9,13 @@ use Rattle.kex_reader.specs.Spelling.{Spells}
 use Rattle.kex_compile.specs.Stages.{HaveInAll, HaveStatesInAll, roots_of}
 use Rattle.kex_plan.specs.Plans.{Planned}
 use Rattle.kex_tabfile.specs.TableFiles.{ArePlansOf, IsGood}
-use Rattle.kex_words.specs.Words.{most_input}
+use Rattle.kex_words.specs.Words.{most_input, Asked, Mode}
 use Rattle.kex_words.specs.Gains.{StreamChange, GainsFront, GainsWhole}
 use Rattle.kex_words.specs.Lines.{counts_line, trial_line}
-use Rattle.kex_words.specs.Words.{Asked, Mode}
 use Rattle.kex_words.specs.Words.Asked.{ToCheck, ToCompile, ToEach, ToExec, ToStream, ToTry}
 use Rattle.kex_words.specs.Words.Mode.{running, testing}
 use Rattle.kex_words.specs.declared.counts.TrialCounts.{TrialCounts}
-use Rattle.kex_top.specs.Answer.{Said}
+use Rattle.kex_pipeline.specs.Sayings.{Said}
 use Rattle.kex_top.specs.ByLines.{IsShort, RanByLines, SaysLines, line_block}
 use Rattle.kex_top.specs.Modes.{SaysBy, limits_of, limits_to_check}
 use Rattle.kex_top.specs.Pipelines.{Answered}

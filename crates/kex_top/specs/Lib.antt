@@ -1,14 +1,9 @@
-pub mod Answer
-pub mod History
-pub mod Fronts
 pub mod Run
 pub mod Outside
 pub mod Status
 pub mod Starts
 pub mod Shelves
 pub mod Pipelines
-pub mod PipelineLaws
-pub mod Piped
 pub mod Modes
 pub mod Taken
 pub mod Refusals

@@ -5,8 +5,8 @@ use Rattle.std.specs.List.{concat}
 use Rattle.kex_each.specs.Answers.{PlansAnswerLines}
 use Rattle.kex_ports.specs.Bytes.{AppendsFront}
 use Rattle.kex_stage.specs.Stages.{StagePlan}
-use Rattle.kex_top.specs.declared.pass.Trouble.{Trouble}
-use Rattle.kex_top.specs.declared.pass.Trouble.TheVariants as trouble
+use Rattle.kex_pipeline.specs.declared.pass.Trouble.{Trouble}
+use Rattle.kex_pipeline.specs.declared.pass.Trouble.TheVariants as trouble
 
 -- their answers were written
 pub record WritesTexts (ps : List StagePlan) (lines : List (List ℕ))

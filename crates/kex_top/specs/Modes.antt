@@ -20,8 +20,7 @@ use Rattle.kex_compile.specs.Stages.{roots_of}
 use Rattle.kex_compile.specs.declared.limits.Limits.{Limits}
 use Rattle.kex_words.specs.Words.{Mode}
 use Rattle.kex_words.specs.Words.Mode.{running, coding, acting, testing}
-use Rattle.kex_top.specs.Answer.{Said}
-use Rattle.kex_top.specs.Pipelines.{PipelineSays, StagesSay}
+use Rattle.kex_pipeline.specs.Sayings.{Said, PipelineSays, StagesSay}
 
 -- what is asked of a program: where its input is run through its stages, that no stage has more
 -- than this many states, and, where that is optimal, none too many pairs; otherwise that it has one

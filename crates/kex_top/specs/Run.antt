@@ -1,19 +1,18 @@
 -- What a run over a source and a sink leaves.
 use Rattle.std.specs.Prelude.{◌≡◌, ◌++◌, ◌<◌, ◌≤◌, ◌⊎◌, ℕ, Bool, true, false, List, [], Option}
-use Rattle.std.specs.Prelude.{Some, None, length, Result, Ok, Err}
+use Rattle.std.specs.Prelude.{Some, None, length}
 use Rattle.std.specs.Io.KnownBytes.{Appends, Consumes, IsAtEnd}
 use Rattle.kex_ports.specs.Bytes.{IsPrefix}
-use Rattle.kex_ports.specs.Causes.{Rose}
 use Rattle.kex_words.specs.Gains.{StreamChange, CallHasFailed}
-use Rattle.kex_top.specs.Answer.{Said}
+use Rattle.kex_pipeline.specs.Sayings.{Said}
 use Rattle.kex_pipe.specs.declared.report.Rejected.{Rejected as Report}
 use Rattle.kex_pipe.specs.declared.turn.Why.{Why}
 use Rattle.kex_pipe.specs.declared.turn.Why.TheVariants.{Byte, End, Limit}
 use Rattle.kex_top.specs.declared.status.Status.{Status}
 use Rattle.kex_top.specs.declared.status.Status.TheVariants.{Done, Rejected, ReadFault, WriteFault}
 use Rattle.kex_top.specs.declared.status.Status.TheVariants.{Memory, TooLong, InputTooLong}
-use Rattle.kex_top.specs.declared.pass.Trouble.{Trouble}
-use Rattle.kex_top.specs.declared.pass.Trouble.TheVariants as trouble
+use Rattle.kex_pipeline.specs.declared.pass.Trouble.{Trouble}
+use Rattle.kex_pipeline.specs.declared.pass.Trouble.TheVariants as trouble
 
 -- The object keeps its bytes and its count.
 abbrev pub IsAsBefore : StreamChange → Type 0
@@ -21,11 +20,6 @@ IsAsBefore c = (c.new ≡ c.old) × (c.now ≡ c.before)
 
 abbrev pub Left : StreamChange → StreamChange → Type 0
 Left source sink = IsAsBefore source × IsAsBefore sink
-
-abbrev pub TroubleCause : {T : Type 0} → ℕ → ℕ → Result T Trouble → Type 0
-TroubleCause before now (Ok fate) = now ≡ before
-TroubleCause before now (Err trouble.Memory) = now ≡ before
-TroubleCause before now (Err trouble.Write) = (before ≤ now) × Rose before now
 
 -- The report as a status.
 abbrev pub status_for : Why → Report → Status

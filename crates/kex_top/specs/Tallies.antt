@@ -1,7 +1,7 @@
 -- What a trial counts as it goes on.
 use Rattle.std.specs.Prelude.{◌≡◌, ◌++◌, ℕ, Bool, false, true, List, length, Some}
-use Rattle.kex_top.specs.Answer.{Said}
-use Rattle.kex_top.specs.History.{History, bytes_passed, history_text}
+use Rattle.kex_pipeline.specs.Sayings.{Said}
+use Rattle.kex_pipeline.specs.History.{History, bytes_passed, history_text}
 use Rattle.kex_top.specs.Trials.{saturated_count, rolling_sum}
 use Rattle.kex_top.specs.declared.tally.Tally.{Tally}
 

@@ -2,7 +2,7 @@
 use Rattle.std.specs.Prelude.{◌≡◌, ◌+◌, ◌*◌, ◌/◌, ◌%◌, ◌-◌, ◌^◌, ℕ, zero, suc, Bool, true, List, []}
 use Rattle.std.specs.Prelude.{◌∷◌, ◌++◌, codes, decimal, length, min}
 use Rattle.kex_words.specs.declared.counts.TrialCounts.{TrialCounts}
-use Rattle.kex_top.specs.Answer.{Said}
+use Rattle.kex_pipeline.specs.Sayings.{Said}
 
 -- the state after this one
 abbrev pub next_random : ℕ → ℕ

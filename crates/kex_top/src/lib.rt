@@ -4,19 +4,10 @@
 //! whole program.
 #![tactic(auto)]
 
-mod any_pipe;
 mod call;
-mod host;
 mod limits;
-mod pass;
-mod piece_length;
-mod pipeline;
-mod plain;
 mod program;
 mod refused;
-mod rings;
-mod rounds;
-mod sharing;
 mod single;
 mod start;
 mod status;
@@ -24,7 +15,6 @@ mod stream;
 mod taking;
 mod tally;
 mod trial_lines;
-mod turns;
 mod workers;
 
 pub use call::kex;

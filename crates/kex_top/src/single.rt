@@ -1,7 +1,6 @@
 // The commands on a program of one stage.
 ghost use Rattle.std.specs.Prelude.{◌≡◌, ◌≤◌, ◌∷◌, [], IfOk, IfSome, None, OnErr};
-ghost use Rattle.kex_top.specs.Pipelines.{AlwaysAnswers};
-ghost use Rattle.std.proofs.Common.{ap};
+ghost use Rattle.kex_pipeline.specs.Sayings.{AlwaysAnswers, StagesSay};
 ghost use Rattle.kex_ports.specs.Reads.{last_given};
 ghost use Rattle.kex_single.specs.CodeLaws as code;
 ghost use Rattle.kex_single.specs.PlayedLaws as act;
@@ -11,21 +10,19 @@ ghost use Rattle.kex_words.specs.Gains.{StreamChange, change_of};
 ghost use Rattle.kex_words.specs.Words.Mode.{acting, coding, testing};
 ghost use Rattle.kex_top.specs.Modes.{MachinesSay};
 ghost use Rattle.kex_top.specs.Outside.{Closes, ReadsBlocks};
-ghost use Rattle.kex_top.specs.Pipelines.{StagesSay};
 ghost use Rattle.kex_top.specs.Run.{IsAsBefore, Ran};
 
-use crate::any_pipe::AnyPipe;
-use crate::host::Host;
-use crate::pipeline::Limited;
-use crate::plain::{NoDesk, Plain};
-use crate::rounds::Pace;
 use crate::status::Status;
 use crate::stream::run;
 use kex_code::memory::Memory;
 use kex_constants::{LONGEST, shorten_table};
 use kex_determine::determine;
 use kex_machine::Trimmed;
-use kex_pipe::turn::Turn;
+use kex_pipeline::any_pipe::AnyPipe;
+use kex_pipeline::host::Host;
+use kex_pipeline::limited::Limited;
+use kex_pipeline::plain::Plain;
+use kex_pipeline::rounds::Pace;
 use kex_ports::{Gate, NeverFailsSink, Sink, Source};
 use kex_single::{Coder, Player, Tester};
 use kex_sst::table::Table;
@@ -38,39 +35,6 @@ const MOST_STATES: usize = 1_024;
 
 /// And how many leaves and classes all its states may have, if each has as many as can be.
 const MOST_STEPS: usize = 2_097_152;
-
-impl<'m> Limited for Plain<Coder<'m>> {
-    type Desk = NoDesk;
-
-    ghost limit = { λ s. (⟦<Coder<'m> as Turn>⟧.plan s.stage).limit };
-
-    ghost by_plan = { λ s t e. ap (λ p. p.limit) e };
-
-    ghost past_limit = { λ s w a g lt. code.past (⟦<Coder<'m> as Turn>⟧.plan s.stage).machine
-        (⟦<Coder<'m> as Turn>⟧.plan s.stage).limit w a g lt };
-}
-
-impl<'m> Limited for Plain<Player<'m>> {
-    type Desk = NoDesk;
-
-    ghost limit = { λ s. (⟦<Player<'m> as Turn>⟧.plan s.stage).limit };
-
-    ghost by_plan = { λ s t e. ap (λ p. p.limit) e };
-
-    ghost past_limit = { λ s w a g lt. act.past (⟦<Player<'m> as Turn>⟧.plan s.stage).machine
-        (⟦<Player<'m> as Turn>⟧.plan s.stage).limit w a g lt };
-}
-
-impl<'m> Limited for Plain<Tester<'m>> {
-    type Desk = NoDesk;
-
-    ghost limit = { λ s. (⟦<Tester<'m> as Turn>⟧.plan s.stage).limit };
-
-    ghost by_plan = { λ s t e. ap (λ p. p.limit) e };
-
-    ghost past_limit = { λ s w a g lt. test.past (⟦<Tester<'m> as Turn>⟧.plan s.stage).machine
-        (⟦<Tester<'m> as Turn>⟧.plan s.stage).limit w a g lt };
-}
 
 // Runs one stage.
 fn run_one<R: Threads + Sync, T: Limited + Drop + Send, G: Gate + Sync, S: Source, K: Sink>(

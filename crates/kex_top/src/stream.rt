@@ -3,20 +3,21 @@ ghost use Rattle.std.specs.Prelude.{◌≡◌, ◌<◌, ◌≤◌, ◌^◌, IfOk
 ghost use Rattle.kex_ports.specs.Reads.{Asks, last_given};
 ghost use Rattle.kex_words.specs.Gains.{change_of};
 ghost use Rattle.kex_top.specs.Outside.{Closes, IsSinkOpen, ReadsBlocks};
-ghost use Rattle.kex_top.specs.Piped.{PipeSays, PipeStands, limit_of, plans_of};
-ghost use Rattle.kex_top.specs.Pipelines.{AlwaysSays};
+ghost use Rattle.kex_pipeline.specs.Piped.{PipeSays, PipeStands, limit_of, plans_of};
+ghost use Rattle.kex_pipeline.specs.Sayings.{AlwaysSays};
 ghost use Rattle.kex_top.specs.Run.{Pumped, Ran, status_of, status_after, is_whole};
 
-use crate::any_pipe::AnyPipe;
-use crate::host::Host;
 use crate::limits::MOST_INPUT;
-use crate::pass::{Trouble, pass, pass_end};
-use crate::pipeline::{Limited, rejected};
-use crate::rounds::Pace;
 use crate::status::Status;
 use kex_code::memory::Memory;
 use kex_pipe::report::Rejected;
 use kex_pipe::turn::{Fate, Why};
+use kex_pipeline::any_pipe::AnyPipe;
+use kex_pipeline::feed::rejected;
+use kex_pipeline::host::Host;
+use kex_pipeline::limited::Limited;
+use kex_pipeline::pass::{Trouble, pass, pass_end};
+use kex_pipeline::rounds::Pace;
 use kex_ports::{Failed, Gate, Sink, Source};
 use kex_words::RunLimits;
 use std::thread::Threads;

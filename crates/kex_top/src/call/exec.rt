@@ -14,11 +14,11 @@ ghost use Rattle.kex_top.specs.Starts.{status_of_answer};
 ghost use Rattle.kex_top.specs.Taken.{a_table_file};
 
 use crate::call::serve::run_stages;
-use crate::host::Host;
 use crate::refused::file_refused;
 use crate::start::StartError;
 use crate::status::Status;
 use crate::taking::{TextKind, take};
+use kex_pipeline::host::Host;
 use kex_ports::{Gate, Shelf, Sink, Source};
 use kex_tabfile::check_table;
 use kex_tabfile::checked::Checked;

@@ -1,6 +1,6 @@
 use Rattle.std.proofs.Common.{sym, subst}
 use Rattle.std.proofs.lemmas.Result.{IfOk-weaker}
-use Rattle.kex_top.specs.Pipelines.{AlwaysAnswers}
+use Rattle.kex_pipeline.specs.Sayings.{AlwaysAnswers}
 use Rattle.kex_single.specs.Singles.{MachineCodeAnswers, Single}
 use Rattle.kex_single.specs.contracts.coder.CoderTurn.TheImpl.{ghosts}
 use Rattle.kex_words.specs.Words.Mode.{coding}

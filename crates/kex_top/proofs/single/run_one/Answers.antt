@@ -2,8 +2,8 @@ use Rattle.std.proofs.Common.{◌≡◌, ◌++◌, ◌∷◌, [], List, map, ari
 use Rattle.std.specs.Prelude.{IfOk}
 use Rattle.kex_ports.specs.Reads.{last_given}
 use Rattle.kex_words.specs.Gains.{change}
-use Rattle.kex_top.specs.Piped.{plans_of}
-use Rattle.kex_top.specs.Pipelines.{AlwaysAnswers, AlwaysSays, StagesSay}
+use Rattle.kex_pipeline.specs.Piped.{plans_of}
+use Rattle.kex_pipeline.specs.Sayings.{AlwaysAnswers, AlwaysSays, StagesSay}
 use Rattle.kex_top.proofs.AnswerExistence.{always-says, one-more}
 use Rattle.kex_top.specs.Run.{Ran}
 use Rattle.kex_top.proofs.single.run_one.Goals as goal

@@ -4,11 +4,11 @@ use Rattle.std.specs.Prelude.{Some, None}
 use Rattle.kex_ports.proofs.Known.{consumes-then, consumes-last, consumes-nothing, appends-nothing, appends-same, appends-then, append-nil}
 use Rattle.kex_ports.proofs.ReadRequests.{asks-on, last-read}
 use Rattle.kex_ports.proofs.Endings.{same-finishes}
-use Rattle.kex_top.specs.History.{StagesFed}
+use Rattle.kex_pipeline.specs.History.{StagesFed}
 use Rattle.kex_top.specs.declared.status.Status.TheVariants.{ReadFault}
-use Rattle.kex_top.specs.Piped.{PipeSays, limit_of, plans_of, stages_of}
-use Rattle.kex_top.specs.Pipelines.{AlwaysSays}
-use Rattle.kex_top.specs.PipelineLaws.{says_grows, says_ends}
+use Rattle.kex_pipeline.specs.Piped.{PipeSays, limit_of, plans_of, stages_of}
+use Rattle.kex_pipeline.specs.Sayings.{AlwaysSays}
+use Rattle.kex_pipeline.specs.PipelineLaws.{says_grows, says_ends}
 use Rattle.kex_top.proofs.PortCalls.{open-broken, open-worked}
 use Rattle.kex_top.proofs.WholeRuns.{worked, broken, broken-first, some-not-none}
 use Rattle.kex_top.proofs.stream.pump.Goals as goal

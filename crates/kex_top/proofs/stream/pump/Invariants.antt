@@ -3,8 +3,8 @@ use Rattle.std.specs.Prelude.{Some, None}
 use Rattle.std.specs.Io.KnownBytes.{Appends, Consumes}
 use Rattle.kex_ports.specs.Endings.{counts_of}
 use Rattle.kex_ports.specs.Reads.{Asks}
-use Rattle.kex_top.specs.Answer.{Said}
-use Rattle.kex_top.specs.Piped.{PipeSays, PipeStands, plans_of}
+use Rattle.kex_pipeline.specs.Sayings.{Said}
+use Rattle.kex_pipeline.specs.Piped.{PipeSays, PipeStands, plans_of}
 use Rattle.kex_top.proofs.stream.pump.Given as goal
 
 abbrev pub invariant-reads : goal.invariant-reads

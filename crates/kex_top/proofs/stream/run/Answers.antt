@@ -2,8 +2,8 @@ use Rattle.std.proofs.Common.{rules, ◌≡◌, ℕ, length, true, subst}
 use Rattle.kex_ports.specs.Reads.{last_given}
 use Rattle.kex_words.specs.Gains.{change}
 use Rattle.kex_top.specs.Run.{Pumped, is_whole}
-use Rattle.kex_top.specs.Piped.{PipeSays, plans_of}
-use Rattle.kex_top.specs.PipelineLaws.{says_grows}
+use Rattle.kex_pipeline.specs.Piped.{PipeSays, plans_of}
+use Rattle.kex_pipeline.specs.PipelineLaws.{says_grows}
 use Rattle.kex_top.proofs.WholeRuns.{closed, close-fails}
 use Rattle.kex_top.proofs.stream.run.Goals as goal
 

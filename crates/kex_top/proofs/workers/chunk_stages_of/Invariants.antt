@@ -4,7 +4,8 @@ use Rattle.kex_code.specs.Codes.{IsAmong}
 use Rattle.kex_plan.specs.Plans.{teller_of}
 use Rattle.kex_stage.specs.Stages.{StagePlan}
 use Rattle.kex_chunk_stage.specs.contracts.chunk_stage.ChunkStageTurn.TheImpl.{ghosts}
-use Rattle.kex_top.specs.Pipelines.{AlwaysAnswers, stage_plans}
+use Rattle.kex_pipeline.specs.Sayings.{AlwaysAnswers}
+use Rattle.kex_top.specs.Pipelines.{stage_plans}
 use Rattle.kex_top.proofs.workers.chunk_stages_of.Given as goal
 
 abbrev pub invariant-plans : goal.invariant-plans

@@ -3,7 +3,8 @@ use Rattle.std.proofs.lemmas.List.{length-map}
 use Rattle.kex_plan.specs.Plans.{teller_of}
 use Rattle.kex_stage.specs.Stages.{StagePlan}
 use Rattle.kex_stage.specs.contracts.stage.StageTurn.TheImpl.{ghosts}
-use Rattle.kex_top.specs.Pipelines.{AllAnswer, AlwaysSays, StagesSay, stage_plans}
+use Rattle.kex_pipeline.specs.Sayings.{AllAnswer, AlwaysSays, StagesSay}
+use Rattle.kex_top.specs.Pipelines.{stage_plans}
 use Rattle.kex_top.proofs.AnswerExistence.{always-says}
 use Rattle.kex_top.proofs.PlannedStages.{plan_at}
 use Rattle.kex_top.proofs.call.serve.pipe_of.Goals as goal

@@ -5,7 +5,8 @@ use Rattle.kex_ports.specs.Reads.{last_given}
 use Rattle.kex_words.specs.Gains.{change}
 use Rattle.kex_plan.specs.Plans.{teller_of}
 use Rattle.kex_stage.specs.Stages.{StagePlan}
-use Rattle.kex_top.specs.Pipelines.{NodesSay, first_limit}
+use Rattle.kex_pipeline.specs.Sayings.{first_limit}
+use Rattle.kex_top.specs.Pipelines.{NodesSay}
 use Rattle.kex_top.specs.Run.{Ran}
 use Rattle.kex_top.proofs.CallAnswers.{first-limit, pipe-limit}
 use Rattle.kex_top.proofs.call.serve.run_stages.Goals as goal

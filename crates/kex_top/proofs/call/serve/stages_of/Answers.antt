@@ -7,8 +7,9 @@ use Rattle.kex_plan.specs.Plans.{teller_of}
 use Rattle.kex_stage.specs.Stages.{StagePlan}
 use Rattle.kex_stage.specs.declared.stage.Stage.{Stage}
 use Rattle.kex_stage.specs.contracts.stage.StageTurn.TheImpl.{ghosts}
-use Rattle.kex_top.specs.Pipelines.{AlwaysAnswers, stage_plans}
-use Rattle.kex_top.specs.declared.plain.Plain.{Plain}
+use Rattle.kex_pipeline.specs.Sayings.{AlwaysAnswers}
+use Rattle.kex_top.specs.Pipelines.{stage_plans}
+use Rattle.kex_pipeline.specs.declared.plain.Plain.{Plain}
 use Rattle.kex_top.proofs.AnswerExistence.{one-more, plan-answers}
 use Rattle.kex_top.proofs.PlannedStages.{all-more, one-planned}
 use Rattle.kex_top.proofs.call.serve.stages_of.Goals as goal

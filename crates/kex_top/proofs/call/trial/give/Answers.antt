@@ -1,8 +1,8 @@
 use Rattle.std.proofs.Common.{false, refl, ap, subst, ◌∙◌, ◌+◌, ◌++◌, arith, length}
 use Rattle.std.proofs.lemmas.List.{take_all}
-use Rattle.kex_top.specs.History.{FeedsStages, bytes_passed}
+use Rattle.kex_pipeline.specs.History.{FeedsStages, bytes_passed}
 use Rattle.kex_top.specs.Trials.{saturated_count, rolling_sum}
-use Rattle.kex_top.specs.Piped.{PipeSays, PipeStands, plans_of}
+use Rattle.kex_pipeline.specs.Piped.{PipeSays, PipeStands, plans_of}
 use Rattle.kex_top.proofs.TrialCounts.{counts}
 use Rattle.kex_top.proofs.call.trial.give.Goals as goal
 

@@ -1,10 +1,10 @@
 use Rattle.std.proofs.Common.{◌≡◌, ◌++◌, ℕ, List, Bool, false, refl, sym, ap₂, subst, ◌∙◌, take}
 use Rattle.std.specs.Prelude.{Some}
 use Rattle.std.proofs.lemmas.List.{take-append-drop}
-use Rattle.kex_top.specs.Answer.{Said}
-use Rattle.kex_top.specs.History.{History}
+use Rattle.kex_pipeline.specs.Sayings.{Said}
+use Rattle.kex_pipeline.specs.History.{History}
 use Rattle.kex_top.specs.Tallies.{Counts}
-use Rattle.kex_top.specs.Piped.{PipeSays, PipeStands, plans_of}
+use Rattle.kex_pipeline.specs.Piped.{PipeSays, PipeStands, plans_of}
 use Rattle.kex_top.proofs.TrialCounts.{fed-more}
 use Rattle.kex_top.proofs.call.trial.give_blocks.Goals as goal
 

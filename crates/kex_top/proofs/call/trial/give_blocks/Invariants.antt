@@ -1,6 +1,6 @@
 use Rattle.std.proofs.Common.{◌≡◌, ℕ, List, length}
 use Rattle.kex_top.specs.Tallies.{HasWaiting}
-use Rattle.kex_top.specs.Piped.{PipeSays, PipeStands, plans_of}
+use Rattle.kex_pipeline.specs.Piped.{PipeSays, PipeStands, plans_of}
 use Rattle.kex_top.proofs.call.trial.give_blocks.Given as goal
 
 abbrev pub invariant-blocks-2 : goal.invariant-blocks-2

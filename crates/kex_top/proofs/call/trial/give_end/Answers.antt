@@ -1,8 +1,8 @@
 use Rattle.std.proofs.Common.{[], sym, ap, ◌∙◌, ◌+◌, length}
 use Rattle.std.proofs.lemmas.List.{append-nil}
-use Rattle.kex_top.specs.History.{bytes_passed}
+use Rattle.kex_pipeline.specs.History.{bytes_passed}
 use Rattle.kex_top.specs.Trials.{saturated_count, rolling_sum}
-use Rattle.kex_top.specs.Piped.{PipeSays, PipeStands, plans_of}
+use Rattle.kex_pipeline.specs.Piped.{PipeSays, PipeStands, plans_of}
 use Rattle.kex_top.proofs.TrialCounts.{counts}
 use Rattle.kex_top.proofs.call.trial.give_end.Goals as goal
 

@@ -1,11 +1,11 @@
 use Rattle.std.proofs.Common.{◌≡◌, ◌++◌, ◌-◌, ◌+◌, ◌<◌, ℕ, suc, List, [], Bool, true, false, refl, sym, ap, subst, ◌∙◌, arith}
 use Rattle.std.specs.Prelude.{IfOk, Ok, Err, Result, Some, None}
 use Rattle.std.proofs.lemmas.List.{append-nil, append_assoc}
-use Rattle.kex_top.specs.Answer.{Said}
-use Rattle.kex_top.specs.History.{History}
+use Rattle.kex_pipeline.specs.Sayings.{Said}
+use Rattle.kex_pipeline.specs.History.{History}
 use Rattle.kex_top.specs.Tallies.{HasWaiting, IsTally}
 use Rattle.kex_top.specs.Trials.{drawn_line, lines_from, made_lines}
-use Rattle.kex_top.specs.Piped.{PipeSays, PipeStands, plans_of}
+use Rattle.kex_pipeline.specs.Piped.{PipeSays, PipeStands, plans_of}
 use Rattle.kex_top.proofs.TrialCounts.{lines-more, waits-more}
 use Rattle.kex_top.proofs.call.trial.give_lines.Goals as goal
 

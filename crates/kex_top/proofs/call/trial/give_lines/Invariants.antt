@@ -1,7 +1,7 @@
 use Rattle.std.proofs.Common.{◌≡◌, ◌-◌, ◌<◌, ◌^◌, ◌++◌, ℕ, List}
 use Rattle.kex_top.specs.Tallies.{HasWaiting}
 use Rattle.kex_top.specs.Trials.{lines_from, made_lines}
-use Rattle.kex_top.specs.Piped.{PipeSays, PipeStands, plans_of}
+use Rattle.kex_pipeline.specs.Piped.{PipeSays, PipeStands, plans_of}
 use Rattle.kex_top.proofs.call.trial.give_lines.Given as goal
 
 abbrev pub invariant-lines : goal.invariant-lines

@@ -1,0 +1,45 @@
+use Rattle.std.proofs.Common.{◌++◌, ◌∷◌, [], ◌∙◌, ◌-◌, ◌≤◌, ℕ, List, take, drop, arith, length}
+use Rattle.kex_model.specs.Schedules.{give}
+use Rattle.kex_rings.specs.Standing.{RingsStand}
+use Rattle.kex_pipeline.proofs.RingRounds.{none-given}
+use Rattle.kex_pipeline.proofs.StageRounds.{piece-given, front-more}
+use Rattle.kex_pipeline.proofs.rings.give_front.Goals as goal
+
+pub pieces-init : goal.pieces-init
+pieces-init g c = record {
+  within = omega arith;
+  given = λ ps h taken s. none-given g.T.Turn ps h taken c.args.pipe.now s;
+  unended = c.requires.unended;
+  going = c.requires.going;
+}
+
+pub pieces-preserved : goal.pieces-preserved
+pieces-preserved g c =
+    let t = g.T.Turn in
+    let l = c.pieces in
+    let bytes = c.args.bytes.now in
+    let end : ℕ = c.min-end.result in
+    let part : List ℕ = take (end - l.given) (drop l.given bytes) in
+    let past : l.given ≤ end = omega (arith, c.min-end.ensures, l.invariant.within) in
+    let within : end ≤ length bytes = omega (arith, c.min-end.ensures) in
+    record {
+      within = within;
+      given = λ ps h taken s.
+          piece-given t.gives ps (λ k. RingsStand t ps l.pipe k taken) (λ k. RingsStand t ps c.work_off.new.pipe k taken) h (take l.given bytes) part (take end bytes) (front-more bytes l.given end past)
+          (λ k st. c.in_ok-most.ensures.works ps (k ++ give part ∷ []) taken (c.in_ok-give.ensures.stands ps k taken st))
+          (l.invariant.given ps h taken s);
+      unended = c.in_ok-most.ensures.ended ∙ c.give.ensures.ended ∙ l.invariant.unended;
+      going = c.in_ok-most.ensures.going;
+    }
+
+pub returns-then-written-ge-ENOUGH-clause-given : goal.returns-then-written-ge-ENOUGH-clause-given
+returns-then-written-ge-ENOUGH-clause-given g c = λ ps h taken s.
+    let t = g.T.Turn in
+    let l = c.pieces in
+    let bytes = c.args.bytes.now in
+    let end : ℕ = c.min-end.result in
+    let part : List ℕ = take (end - l.given) (drop l.given bytes) in
+    let past : l.given ≤ end = omega (arith, c.min-end.ensures, l.invariant.within) in
+    piece-given t.gives ps (λ k. RingsStand t ps l.pipe k taken) (λ k. RingsStand t ps c.work_off.new.pipe k taken) h (take l.given bytes) part (take end bytes) (front-more bytes l.given end past)
+    (λ k st. c.in_ok-most.ensures.works ps (k ++ give part ∷ []) taken (c.in_ok-give.ensures.stands ps k taken st))
+    (l.invariant.given ps h taken s)
