@@ -1,5 +1,7 @@
 //! What a stage takes over from its desks. No clause says that it takes anything: without its desks
 //! it answers the same.
+ghost use Rattle.std.specs.Prelude.{IsTrue};
+
 use crate::made::ANY;
 use kex_chunk_stage::chunk_stage::ChunkStage;
 use kex_compile::compile;
@@ -11,7 +13,25 @@ use std::alloc::Global;
 use std::test::Fail;
 use std::thread::Threads;
 
-// How many parts a stage with four desks takes over of a piece, and of that and the same once more.
+// How many parts a stage takes over of a piece, and of that and the same once more.
+fn taken_by<'p, R: Threads + Sync>(
+    rt: &R,
+    alloc: Global,
+    stage: &mut ChunkStage<'p>,
+    piece: &[u8],
+) -> Result<(u64, u64), Fail>
+    requires { IsTrue (⟦<ChunkStage<'p> as Turn>⟧.is_usable stage.old) }
+{
+    let mut out = Vec::new(alloc);
+    work_ahead(rt, stage, piece, 4_096, &OpenGate);
+    stage.feed(piece, &mut out)?;
+    let first = stage.taken();
+    work_ahead(rt, stage, piece, 4_096, &OpenGate);
+    stage.feed(piece, &mut out)?;
+    Ok((first, stage.taken()))
+}
+
+// The same of a stage with four desks. A stage is much to drop, so it is dropped at one place.
 fn taken<R: Threads + Sync>(
     rt: &R,
     alloc: Global,
@@ -22,13 +42,7 @@ fn taken<R: Threads + Sync>(
         return Err(Fail::new("no table"));
     }
     let mut stage = ChunkStage::new(alloc, plan, u64::MAX, 4)?;
-    let mut out = Vec::new(alloc);
-    work_ahead(rt, &mut stage, piece, 4_096, &OpenGate);
-    stage.feed(piece, &mut out)?;
-    let first = stage.taken();
-    work_ahead(rt, &mut stage, piece, 4_096, &OpenGate);
-    stage.feed(piece, &mut out)?;
-    Ok((first, stage.taken()))
+    taken_by(rt, alloc, &mut stage, piece)
 }
 
 // Of the first piece some lines of each part are worked on, of the second all but two lines of the

@@ -1,5 +1,8 @@
 //! Summaries of texts, and what feeds by them. No clause says that two are made at once, and that
 //! there is memory for one.
+ghost use Rattle.std.specs.Prelude.{◌≡◌, ℕ, List, IsTrue, false};
+ghost use Rattle.kex_sst.specs.Summaries.{sum_of};
+
 use crate::made::ANY;
 use kex_chunks::{chunk, compose, feed_many};
 use kex_code::code::Code;
@@ -12,6 +15,7 @@ use kex_sst::summary::{Course, Summary};
 use kex_sst::table::Table;
 use std::alloc::{AllocError, Global};
 use std::test::Fail;
+use std::thread::Threads;
 
 // The course from each state.
 fn shown(alloc: Global, summary: &Summary) -> Result<String, AllocError> {
@@ -67,7 +71,18 @@ fn courses_are_those_of_the_rows(rt: HostRuntime) -> Result<(), Fail> {
     Ok(())
 }
 
-// The first part and the second are worked on at once.
+// Whether the first part and the second are worked on at once.
+fn meet<R: Threads + Sync>(rt: &R, alloc: Global, table: &Table) -> Result<bool, Fail> {
+    let gate = MeetGate::default();
+    let mut code = Code::new(alloc);
+    let mut runner = Runner::new(alloc, table)?;
+    if feed_many(rt, alloc, &mut runner, b"a", 1, &OpenGate, &mut code)? != Fed::On {
+        return Ok(false);
+    }
+    let fed = feed_many(rt, alloc, &mut runner, b"bb", 2, &gate, &mut code)?;
+    Ok(fed == Fed::On && gate.saw(1) && gate.saw(2))
+}
+
 #[test]
 fn gate_meets_chunks(rt: HostRuntime) -> Result<(), Fail> {
     let alloc = rt.alloc();
@@ -77,31 +92,39 @@ fn gate_meets_chunks(rt: HostRuntime) -> Result<(), Fail> {
         .first()
         .and_then(Plan::table)
         .ok_or("no table")?;
-    let mut runner = Runner::new(alloc, table)?;
-    let mut code = Code::new(alloc);
-    let first = feed_many(&rt, alloc, &mut runner, b"a", 1, &OpenGate, &mut code)?;
-    assert!(&rt; first == Fed::On);
-    let gate = MeetGate::default();
-    let fed = feed_many(&rt, alloc, &mut runner, b"bb", 2, &gate, &mut code)?;
-    assert!(&rt; fed == Fed::On);
-    assert!(&rt; gate.saw(1));
-    assert!(&rt; gate.saw(2));
+    assert!(&rt; meet(&rt, alloc, table)?);
     Ok(())
+}
+
+// What comes of the second of two texts, by their summaries.
+fn apply_both<'t>(
+    runner: &mut Runner<'t>,
+    one: &Summary,
+    other: &Summary,
+    code: &mut Code,
+) -> Result<Option<Applied>, Fail>
+    requires one { (x : List ℕ) × (one.now ≡ sum_of runner.old.table x) }
+    requires other { (x : List ℕ) × (other.now ≡ sum_of runner.old.table x) }
+    requires usable { IsTrue runner.old.usable }
+    requires open { runner.old.ended ≡ false }
+    requires read { runner.old.read ≡ 0 }
+{
+    if runner.is_dead() || one.length().max(other.length()) > 99 {
+        return Ok(None);
+    }
+    match runner.apply(one, code)? {
+        Applied::On => Ok(Some(runner.apply(other, code)?)),
+        Applied::Gone(_) => Ok(None),
+    }
 }
 
 // A text by its summary after `a`.
 fn applied(alloc: Global, table: &Table, text: &[u8]) -> Result<Option<Applied>, Fail> {
-    let mut runner = Runner::new(alloc, table)?;
-    let mut code = Code::new(alloc);
     let first = chunk(alloc, table, b"a")?;
     let summary = chunk(alloc, table, text)?;
-    if runner.is_dead() || first.length().max(summary.length()) > 99 {
-        return Ok(None);
-    }
-    match runner.apply(&first, &mut code)? {
-        Applied::On => Ok(Some(runner.apply(&summary, &mut code)?)),
-        Applied::Gone(_) => Ok(None),
-    }
+    let mut code = Code::new(alloc);
+    let mut runner = Runner::new(alloc, table)?;
+    apply_both(&mut runner, &first, &summary, &mut code)
 }
 
 #[test]

@@ -4,6 +4,7 @@ use crate::made::ANY;
 use kex_action::actor::Actor;
 use kex_code::symbol::Symbol;
 use kex_compile::compile;
+use kex_machine::Trimmed;
 use kex_moves::phrases::Phrases;
 use kex_script::interned::Interned;
 use kex_script::piece::ByteWord;
@@ -35,21 +36,25 @@ fn words(alloc: Global) -> Result<Vec<Parts>, Fail> {
     Ok(words)
 }
 
-// The last of the words is said.
+// Whether the last of the words is said.
+fn says_last(alloc: Global, machine: &Trimmed, out: &mut Vec<u8>) -> Result<bool, Fail> {
+    let words = words(alloc)?;
+    let mut actor = Actor::new(alloc, machine)?;
+    let mut phrases = Phrases::new(alloc, &words, machine)?;
+    let last = ByteWord {
+        word: 69_999,
+        byte: b'x',
+    };
+    Ok(phrases.say(&mut actor, &[last], out)?)
+}
+
 #[test]
 fn words_of_phrases(rt: HostRuntime) -> Result<(), Fail> {
     let alloc = rt.alloc();
     let compiled = compile(alloc, b"main := (\"<\" /./ \">\" | ~/./)*", &ANY)?;
     let machine = compiled.stages().first().ok_or("no stage")?.machine();
-    let mut phrases = Phrases::new(alloc, &words(alloc)?, machine)?;
-    let mut actor = Actor::new(alloc, machine)?;
     let mut out = Vec::new(alloc);
-    let last = ByteWord {
-        word: 69_999,
-        byte: b'x',
-    };
-    let all = phrases.say(&mut actor, &[last], &mut out)?;
-    assert!(rt; all);
+    assert!(rt; says_last(alloc, machine, &mut out)?);
     assert!(rt; out.as_slice() == b"<x>".as_slice());
     Ok(())
 }

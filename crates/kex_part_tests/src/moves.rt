@@ -9,19 +9,25 @@ use kex_sst::table::Table;
 use std::alloc::Global;
 use std::test::Fail;
 
-// How many bytes one run takes along a table, and what it writes.
+// How many bytes one run takes along a table, where a front of its piece may be known to be held
+// back, and what it writes. At each `?` all is dropped that is alive, so what is much is made last.
 fn run_along<'p>(
     alloc: Global,
     table: &'p Table,
     machine: &'p Trimmed,
+    held: usize,
     piece: &[u8],
 ) -> Result<(usize, Vec<u8>), Fail> {
-    let mut moves = Moves::new(alloc, table, machine)?;
-    let mut actor = Actor::new(alloc, machine)?;
     let mut out = Vec::new(alloc);
+    let mut actor = Actor::new(alloc, machine)?;
     actor.take(&[], &mut out)?;
-    let ran = moves.run(0, &mut actor, piece, &mut out)?;
-    Ok((ran.count, out))
+    let mut moves = Moves::new(alloc, table, machine)?;
+    let ran = match held {
+        0 => moves.run(0, &mut actor, piece, &mut out),
+        _ => moves.run_past(held, 0, &mut actor, piece, &mut out),
+    };
+    let count = ran?.count;
+    Ok((count, out))
 }
 
 // The same along the table of a program.
@@ -29,7 +35,7 @@ fn run(alloc: Global, text: &str, piece: &[u8]) -> Result<(usize, Vec<u8>), Fail
     let compiled = compile(alloc, text.as_bytes(), &ANY)?;
     let plan = compiled.stages().first().ok_or("no stage")?;
     let table = clear_table(alloc, plan.table().ok_or("no table")?, LONGEST)?;
-    run_along(alloc, &table, plan.machine(), piece)
+    run_along(alloc, &table, plan.machine(), 0, piece)
 }
 
 // Bytes alone and nothing in runs, a text with the byte in it, registers of the program, and text
@@ -67,10 +73,10 @@ fn end_along<'p>(
     machine: &'p Trimmed,
     text: &[u8],
 ) -> Result<(bool, Vec<u8>), Fail> {
-    let mut moves = Moves::new(alloc, table, machine)?;
-    let mut actor = Actor::new(alloc, machine)?;
     let mut out = Vec::new(alloc);
+    let mut actor = Actor::new(alloc, machine)?;
     actor.take(&[], &mut out)?;
+    let mut moves = Moves::new(alloc, table, machine)?;
     let done = moves.end(0, &mut actor, text, &mut out)?;
     Ok((done, out))
 }
@@ -116,23 +122,6 @@ fn a_text_that_breaks_off_is_left(rt: HostRuntime) -> Result<(), Fail> {
     Ok(())
 }
 
-// How many bytes one run takes along a table, where a front of its piece is known to be held back,
-// and what it writes.
-fn run_past_along<'p>(
-    alloc: Global,
-    table: &'p Table,
-    machine: &'p Trimmed,
-    held: usize,
-    piece: &[u8],
-) -> Result<(usize, Vec<u8>), Fail> {
-    let mut moves = Moves::new(alloc, table, machine)?;
-    let mut actor = Actor::new(alloc, machine)?;
-    let mut out = Vec::new(alloc);
-    actor.take(&[], &mut out)?;
-    let ran = moves.run_past(held, 0, &mut actor, piece, &mut out)?;
-    Ok((ran.count, out))
-}
-
 // A leap of more bytes than are looked at for one, and than a sheet has, is found where all but its
 // last byte are known to be held back.
 #[test]
@@ -147,10 +136,10 @@ fn a_leap_goes_past_what_is_held_back(rt: HostRuntime) -> Result<(), Fail> {
     let table = clear_table(alloc, plan.table().ok_or("no table")?, LONGEST)?;
     let mut piece = b"ab".repeat(alloc, 100_000)?;
     piece.push(b'!')?;
-    let (none, nothing) = run_past_along(alloc, &table, plan.machine(), 0, &piece)?;
+    let (none, nothing) = run_along(alloc, &table, plan.machine(), 0, &piece)?;
     assert_eq!(rt; none, 0);
     assert!(rt; nothing.is_empty());
-    let (all, said) = run_past_along(alloc, &table, plan.machine(), 200_000, &piece)?;
+    let (all, said) = run_along(alloc, &table, plan.machine(), 200_000, &piece)?;
     assert_eq!(rt; all, 200_001);
     let mut wanted = b"1 ".to_vec(alloc)?;
     wanted.extend_from_slice(&piece)?;
